@@ -1,0 +1,48 @@
+// The separators of a word of 46 cells: those it has, those that the fill adds, and whether the fill could add one.
+ghost use mathlib.Core.Path.{_≡_};
+ghost use Prim.Native.Nat.{_^_, _<_};
+ghost use Rattle.cells.specs.Cells.{number, cells};
+ghost use Rattle.word.specs.Fill.{fill, clear, full};
+ghost use Rattle.word.specs.Bitwise.{free};
+
+// The word with its data cells put to 0: every second cell of each run of set cells, from the run's first on. A run passes a cell on
+// by d places; each turn doubles d.
+pub fn separators_of(word: u64) -> u64
+    requires { ⌜ word < 2 ^ 46 ⌝ }
+    ensures { λ r. ⌜ r ≡ number (clear (cells 46 word)) ⌝ }
+{
+    let mut pass = word & (word / 2);
+    let mut set = word ^ pass;
+    let mut d: u64 = 2;
+    while d < 64 {
+        set |= pass & (set >> d);
+        pass &= pass >> d;
+        d *= 2;
+    }
+    set
+}
+
+// The cells that are 0 and have no set neighbour.
+fn free_cells(word: u64) -> u64
+    requires { ⌜ word < 2 ^ 46 ⌝ }
+    ensures { λ r. ⌜ r ≡ free word ⌝ }
+{
+    let near = (word | word * 2) | word / 2;
+    (near & 0x3fff_ffff_ffff) ^ 0x3fff_ffff_ffff
+}
+
+// The word after the fill: of each run of free cells it sets every second, from the first on.
+pub fn fill_word(word: u64) -> u64
+    requires { ⌜ word < 2 ^ 46 ⌝ }
+    ensures { λ r. ⌜ r ≡ number (fill (cells 46 word)) ⌝ }
+{
+    word | separators_of(free_cells(word))
+}
+
+// Whether the fill could set no further cell. Of the separators of a second-round word: whether the word is well formed.
+pub fn is_full(word: u64) -> bool
+    requires { ⌜ word < 2 ^ 46 ⌝ }
+    ensures { λ r. ⌜ r ≡ full (cells 46 word) ⌝ }
+{
+    free_cells(word) == 0
+}
