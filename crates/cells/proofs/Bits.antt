@@ -1,21 +1,18 @@
 -- The digits of a number as truth values: what each operation on words does to a digit, and that a number is its digits.
 -- Assumes nothing.
-use mathlib.Core.Path.{_≡_, refl, sym, subst, _∙_, ap, ap₂}
-use mathlib.Core.Bool.{Bool, true, false, cond, not, _&&_, _||_}
-use mathlib.Core.List.{List, [], _∷_}
+use mathlib.Core.Path.{_≡_, refl, sym, _∙_, ap, ap₂}
+use mathlib.Core.Bool.{Bool, true, false, xor, _&&_, _||_}
+use mathlib.Core.List.{List, _∷_}
 use Prim.Native.Nat.{ℕ, zero, suc, min, max, _+_, _-_, _*_, _/_, _%_, _^_, _≤_, _<_}
-use native.Mathlib.Nat.{div-eq-of-lt, two-pow-succ, sub-add-cancel}
+use native.Mathlib.Nat.{div-eq-of-lt, div-one, two-pow-succ, add-comm}
+use native.Mathlib.Numerals.{one-add}
 use native.Mathlib.Omega.{arith}
 use lib.Dec.{eqb, ltb}
 use lib.Pow.{shr-shr, pow-mono, pow-pos, ones-split, high, ones-lt}
 use lib.Bits.{bitAnd, bitOr, bitXor, differ, and-step, or-step, xor-step, and-shr, or-shr, xor-shr}
-use borrow.Author.Tests.{lt-ltb, le-ltb, ltb-true, ltb-false}
-use Rattle.cells.specs.Cells.{number, bit, cells}
+use borrow.Author.Tests.{ltb-true, ltb-false}
+use Rattle.cells.specs.Cells.{first, number, bit, cells}
 use Rattle.cells.proofs.Numbers.{number-cells}
-
-unfoldable pub xorb : Bool → Bool → Bool
-xorb true b = not b
-xorb false b = b
 
 -- of two binary digits
 and-digit : (x y : ℕ) → x < 2 → y < 2 → eqb (min x y) 1 ≡ (eqb x 1 && eqb y 1)
@@ -36,8 +33,8 @@ or-digit (suc zero) (suc zero) a b = refl
 or-digit (suc zero) (suc (suc y)) a b = absurd (omega arith)
 or-digit (suc (suc x)) y a b = absurd (omega arith)
 
-xor-digit : (x y : ℕ) → x < 2 → y < 2 → eqb (differ x y) 1 ≡ xorb (eqb x 1) (eqb y 1)
-unfolding xorb
+xor-digit : (x y : ℕ) → x < 2 → y < 2 → eqb (differ x y) 1 ≡ xor (eqb x 1) (eqb y 1)
+unfolding xor
 xor-digit zero zero a b = refl
 xor-digit zero (suc zero) a b = refl
 xor-digit zero (suc (suc y)) a b = absurd (omega arith)
@@ -72,7 +69,7 @@ unfolding bit
 bit-or a b i =
     rw (or-shr a b i, low-or (a / 2 ^ i) (b / 2 ^ i)) (or-digit (a / 2 ^ i % 2) (b / 2 ^ i % 2) (omega arith) (omega arith))
 
-pub bit-xor : (a b i : ℕ) → bit (bitXor a b) i ≡ xorb (bit a i) (bit b i)
+pub bit-xor : (a b i : ℕ) → bit (bitXor a b) i ≡ xor (bit a i) (bit b i)
 unfolding bit
 bit-xor a b i =
     rw (xor-shr a b i, low-xor (a / 2 ^ i) (b / 2 ^ i)) (xor-digit (a / 2 ^ i % 2) (b / 2 ^ i % 2) (omega arith) (omega arith))
@@ -81,11 +78,31 @@ pub bit-shr : (x d i : ℕ) → bit (x / 2 ^ d) i ≡ bit x (d + i)
 unfolding bit
 bit-shr x d i = rw (shr-shr x d i)
 
+pub bit-half : (x i : ℕ) → bit (x / 2) i ≡ bit x (suc i)
+bit-half x i = bit-shr x 1 i ∙ ap (bit x) (one-add i)
+
 pub bit-high : (x n i : ℕ) → x < 2 ^ n → n ≤ i → bit x i ≡ false
 unfolding bit
 bit-high x n i h l =
     let z : x / 2 ^ i ≡ 0 = div-eq-of-lt (omega (arith, pow-mono l)) in
     rw z
+
+pub bit-zero : (i : ℕ) → bit 0 i ≡ false
+bit-zero i = bit-high 0 0 i (omega arith) (omega arith)
+
+-- the digits above the s lowest do not depend on these
+pub bit-above : (k s q r : ℕ) → r < 2 ^ s → bit (q * 2 ^ s + r) (k + s) ≡ bit q k
+unfolding bit
+bit-above k s q r h =
+    let e : (q * 2 ^ s + r) / 2 ^ (k + s) ≡ q / 2 ^ k =
+        ap (λ (m : ℕ). (q * 2 ^ s + r) / 2 ^ m) (add-comm k s) ∙ sym (shr-shr (q * 2 ^ s + r) s k) ∙ ap (λ (y : ℕ). y / 2 ^ k) (high q s h) in
+    rw e
+
+-- a number doubled has at each digit the one below
+pub bit-double : (x n : ℕ) → bit (x * 2) n ≡ first (cells n x)
+unfolding bit first cells
+bit-double x zero = let z : x * 2 / 1 % 2 ≡ 0 = omega (arith, div-one (x * 2)) in rw z
+bit-double x (suc n) = let z : x * 2 / 2 ≡ x = omega arith in sym (bit-half (x * 2) n) ∙ rw z
 
 odd-ones : (m : ℕ) → (2 ^ suc m - 1) % 2 ≡ 1
 odd-ones m = omega (arith, two-pow-succ m, pow-pos m)

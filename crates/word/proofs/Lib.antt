@@ -1,0 +1,7 @@
+-- The laws of a word. specs/Claims.antt states the chief ones in words.
+pub mod Tests
+pub mod Weights
+pub mod Sums
+pub mod SetCells
+pub mod Totals
+pub mod Neighbours

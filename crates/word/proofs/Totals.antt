@@ -1,0 +1,60 @@
+-- The sum of a word by its last set cell: that cell's weight, and the sum of the word without it.
+-- Assumes nothing.
+use mathlib.Core.Path.{_≡_, refl, _∙_, ap}
+use Prim.Native.Nat.{ℕ, zero, suc, _+_, _-_, _*_, _^_, _<_}
+use native.Mathlib.Nat.{suc-add, zero-add, add-zero, le-add-left}
+use native.Mathlib.Omega.{arith}
+use lib.Bits.{bitAnd}
+use lib.Pow.{pow-pos}
+use Rattle.cells.specs.Cells.{cells}
+use Rattle.cells.proofs.Numbers.{cells-low}
+use Rattle.cells.proofs.Bits.{bit-high, bit-above}
+use Rattle.word.specs.Word.{weight, sum}
+use Rattle.word.proofs.Sums.{sum-cells}
+use Rattle.word.proofs.SetCells.{power-lt, top-bit, Low, and-less, low-small}
+
+-- zeros above the n low cells add nothing
+sum-above : (k n x : ℕ) → x < 2 ^ n → sum (cells (k + n) x) ≡ sum (cells n x)
+sum-above zero n x h = rw (zero-add n)
+sum-above (suc k) n x h =
+    rw (suc-add k n) (sum-cells (k + n) x ∙ rw (bit-high x n (k + n) h (le-add-left n k)) (omega (arith, sum-above k n x h)))
+
+empty : (x : ℕ) → sum (cells 0 x) ≡ 0
+unfolding sum cells
+empty x = refl
+
+sum-split : (j r : ℕ) → r < 2 ^ j → sum (cells (suc j) (1 * 2 ^ j + r)) ≡ weight (suc j) + sum (cells j r)
+sum-split j r h = sum-cells j (1 * 2 ^ j + r) ∙ rw (top-bit j r h, cells-low j 1 r)
+
+sum-parts : (k s q r p : ℕ) → r < 2 ^ s → p < 2 ^ s
+    → sum (cells (k + s) (q * 2 ^ s + r)) + sum (cells s p) ≡ sum (cells (k + s) (q * 2 ^ s + p)) + sum (cells s r)
+sum-parts zero s q r p a b = rw (zero-add s, cells-low s q r, cells-low s q p) (omega arith)
+sum-parts (suc k) s q r p a b =
+    rw (suc-add k s, sum-cells (k + s) (q * 2 ^ s + r), sum-cells (k + s) (q * 2 ^ s + p), bit-above k s q r a, bit-above k s q p b)
+    (omega (arith, sum-parts k s q r p a b))
+
+sum-none : (n : ℕ) → sum (cells n 0) ≡ 0
+sum-none n = rw add-zero at (sum-above n 0 0 (omega arith)) ∙ empty 0
+
+one-power : (t : ℕ) → 1 * 2 ^ t + 0 ≡ 2 ^ t
+one-power t = omega arith
+
+sum-power : (t : ℕ) → sum (cells (suc t) (2 ^ t)) ≡ weight (suc t)
+sum-power t = rw one-power at (sum-split t 0 (pow-pos t)) ∙ omega (arith, sum-none t)
+
+sum-low-cell : (x t : ℕ) → x < 2 ^ 46 → Low x t → sum (cells 46 x) ≡ weight (suc t) + sum (cells 46 (bitAnd x (x - 1)))
+sum-low-cell x t h l =
+    let q : ℕ = l .above in
+    let b : t < 46 = low-small x t h l in
+    let e : (45 - t) + suc t ≡ 46 = omega arith in
+    let p = rw e at (sum-parts (45 - t) (suc t) q (2 ^ t) 0 (power-lt t) (pow-pos (suc t))) in
+    rw (and-less x t l) (ap (λ (y : ℕ). sum (cells 46 y)) (l .parts) ∙ omega (arith, p, sum-power t, sum-none (suc t)))
+
+-- ---- the turns of the loop
+
+pub sum-turn : (total x word w t : ℕ) → x < 2 ^ 46 → Low x t → w ≡ weight (suc t) → total + sum (cells 46 x) ≡ sum (cells 46 word)
+    → total + w + sum (cells 46 (bitAnd x (x - 1))) ≡ sum (cells 46 word)
+sum-turn total x word w t b l e h = omega (arith, sum-low-cell x t b l)
+
+pub sum-end : (total x word : ℕ) → x ≡ 0 → total + sum (cells 46 x) ≡ sum (cells 46 word) → total ≡ sum (cells 46 word)
+sum-end total x word e h = omega (arith, rw (e, sum-none 46) at h)
