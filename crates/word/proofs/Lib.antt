@@ -5,3 +5,11 @@ pub mod Sums
 pub mod SetCells
 pub mod Totals
 pub mod Neighbours
+pub mod Order
+pub mod Encoding
+pub mod Filling
+pub mod SecondBits
+pub mod Clearing
+pub mod FreeCells
+pub mod Counting
+pub mod Reading
