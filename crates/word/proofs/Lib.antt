@@ -13,3 +13,5 @@ pub mod Clearing
 pub mod FreeCells
 pub mod Counting
 pub mod Reading
+pub mod Answers
+pub mod Measures

@@ -10,6 +10,7 @@ use lib.Count.{leadingZeros}
 use Rattle.cells.specs.Cells.{number, cells}
 use Rattle.word.specs.Fill.{read}
 use Rattle.word.proofs.SetCells.{Top, top-cell}
+use Rattle.word.proofs.Clearing.{clear-lt}
 use Rattle.word.proofs.Reading.{pick, part-le, read-first, read-turn, read-end, read-lt}
 use Rattle.word.proofs.second.read_bits.Statement.{statement}
 use Rattle.word.proofs.second.read_bits.Tie as tie
@@ -21,18 +22,15 @@ Inv-loop word separators mask₀ out₀ mask out =
 abbrev μ-loop : tie.MeasureT-loop
 μ-loop word separators mask₀ out₀ mask out = mask
 
-clear-word-requires : tie.Need-clear-word-requires Inv-loop μ-loop
-clear-word-requires c κs = search needs
-
 loop-holds : tie.Need-loop-holds Inv-loop μ-loop
 loop-holds c =
-    (omega (arith, c .clear-word .ensures, clear-lt (c .before .args .word)), read-first _ _ (c .before .pre) (c .clear-word .ensures))
+    (omega (arith, c .pre .1, clear-lt (c .args .word)), read-first _ _ (c .pre .0) (c .pre .1))
 
 top : (c : tie.In-loop Inv-loop μ-loop) → Top (c .before .loop .mask) (leadingZeros 64 (c .before .loop .mask))
 top c = top-cell (c .before .loop .mask) (omega arith) (c .before .loop .inv .0)
 
 small : (c : tie.In-loop Inv-loop μ-loop) → c .before .loop .out < 2 ^ 46
-small c = omega (arith, read-lt (c .before .before .before .args .word), part-le _ _ _ _ (c .before .loop .inv .1))
+small c = omega (arith, read-lt (c .before .before .args .word), part-le _ _ _ _ (c .before .loop .inv .1))
 
 sub-j : tie.Need-sub-j Inv-loop μ-loop
 sub-j c = top c .zeros
@@ -73,7 +71,6 @@ read-bits-spec =
     (tie.spec
     Inv-loop
     μ-loop
-    clear-word-requires
     loop-holds
     sub-j
     mul-out
