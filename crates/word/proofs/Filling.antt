@@ -10,7 +10,7 @@ use lib.ListN.{length}
 use mir.Facts.{and-yes}
 use Rattle.cells.specs.Cells.{first, rest}
 use Rattle.word.specs.Word.{sparse}
-use Rattle.word.specs.Fill.{fillFrom, readFrom, kept}
+use Rattle.word.specs.Fill.{fillFrom, fill, readFrom, kept}
 
 pub length-fill : (left : Bool) (cs : List Bool) → length (fillFrom left cs) ≡ length cs
 unfolding fillFrom
@@ -23,7 +23,7 @@ kept-fill left [] = tt
 kept-fill left (true ∷ cs) = kept-fill _ cs
 kept-fill left (false ∷ cs) = kept-fill _ cs
 
-pub sparse-fill : (left : Bool) (cs : List Bool) → T (sparse (left ∷ cs)) → T (sparse (left ∷ fillFrom left cs))
+sparse-fill : (left : Bool) (cs : List Bool) → T (sparse (left ∷ cs)) → T (sparse (left ∷ fillFrom left cs))
 unfolding sparse first fillFrom
 sparse-fill true [] t = tt
 sparse-fill true (true ∷ cs) t = absurd t
@@ -33,6 +33,10 @@ sparse-fill false (true ∷ cs) t = sparse-fill true cs t
 sparse-fill false (false ∷ []) t = tt
 sparse-fill false (false ∷ true ∷ cs) t = sparse-fill true cs t
 sparse-fill false (false ∷ false ∷ cs) t = sparse-fill false cs t
+
+pub fill-apart : (w : List Bool) → T (sparse w) → T (sparse (fill w))
+unfolding fill sparse first
+fill-apart w t = sparse-fill false w t
 
 -- filling twice is filling once
 pub fill-fill : (left : Bool) (cs : List Bool) → T (sparse (left ∷ cs)) → fillFrom left (fillFrom left cs) ≡ fillFrom left cs

@@ -15,3 +15,6 @@ pub mod Counting
 pub mod Reading
 pub mod Answers
 pub mod Measures
+pub mod Examples
+pub mod Formed
+pub mod Claims

@@ -1,22 +1,18 @@
 -- From the answer of the fill to the answer of the capacity.
 -- Assumes nothing.
-use mathlib.Core.Path.{_≡_, refl, sym, _∙_, ap}
-use mathlib.Core.Bool.{Bool, true, false}
+use mathlib.Core.Path.{_≡_, sym, _∙_, ap}
+use mathlib.Core.Bool.{Bool, true}
 use mathlib.Core.List.{List}
 use Prim.Native.Nat.{ℕ, _^_, _<_}
 use lib.ListN.{length}
-use Rattle.cells.specs.Cells.{first, number, cells}
+use Rattle.cells.specs.Cells.{number, cells}
 use Rattle.word.specs.Word.{sparse}
 use Rattle.word.specs.Fill.{fill, read, capacity}
 use Rattle.word.specs.Answer.{result, fillAnswer, capacityAnswer}
 use Rattle.word.proofs.Tests.{holds, is-true}
-use Rattle.word.proofs.Filling.{sparse-fill}
+use Rattle.word.proofs.Filling.{fill-apart}
 use Rattle.word.proofs.FreeCells.{fill-lt, cells-fill}
 use Rattle.word.proofs.Answers.{taken, given, still-taken}
-
-pub fill-apart : (cs : List Bool) → sparse cs ≡ true → sparse (fill cs) ≡ true
-unfolding fill sparse first
-fill-apart cs t = is-true (sparse (fill cs)) (sparse-fill false cs (holds (sparse cs) t))
 
 -- what is known of the number that the fill gives
 pub record Filled (w v : ℕ) : Type 0 where
@@ -32,6 +28,6 @@ filled w v e =
     let c : cells 46 v ≡ fill (cells 46 w) = ap (cells 46) g ∙ cells-fill w in
     record {
       small = rw g (fill-lt w);
-      apart = rw c (fill-apart (cells 46 w) (t .apart));
+      apart = rw c (is-true (sparse (fill (cells 46 w))) (fill-apart (cells 46 w) (holds (sparse (cells 46 w)) (t .apart))));
       measured = ap (λ (l : List Bool). result (length (read l))) c ∙ sym (still-taken w (capacity (cells 46 w)) t)
     }

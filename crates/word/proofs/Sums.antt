@@ -7,11 +7,12 @@ use mathlib.Core.List.{List, [], _∷_}
 use Prim.Native.Nat.{ℕ, zero, suc, _+_, _-_, _^_, _≤_, _<_}
 use native.Mathlib.Omega.{arith}
 use borrow.Author.Tests.{leb-true, leb-false, le-leb, lt-leb}
-use lib.Dec.{leb, T}
+use lib.Dec.{leb, T, leb→le, le→leb}
 use lib.ListN.{length}
+use mir.Facts.{and-yes, yes-and}
 use Rattle.cells.specs.Cells.{first, number, bit, cells}
 use Rattle.cells.proofs.Numbers.{length-cells, number-below}
-use Rattle.word.specs.Word.{weight, sum, sparse, zeckendorf}
+use Rattle.word.specs.Word.{weight, sum, sparse, legal, zeckendorf}
 use Rattle.word.proofs.Weights.{weight-zero, weight-one, weight-next, weight-le, weight-47}
 
 -- what is left of x where the weight w is taken if it goes into x
@@ -114,3 +115,13 @@ sum-cells n x = rw (length-cells n x)
 
 pub word-lt : (x : ℕ) → number (zeckendorf 46 x) < 2 ^ 46
 word-lt x = number-below 46 (zeckendorf 46 x) (length-zeckendorf 46 x)
+
+-- ---- legal cells
+
+pub legal-parts : (w : List Bool) → T (legal w) → T (sparse w) × (sum w ≤ 4294967295)
+unfolding legal
+legal-parts w t = let p = and-yes (sparse w) (leb (sum w) 4294967295) t in (p .0, leb→le (sum w) 4294967295 (p .1))
+
+pub legal-from : (w : List Bool) → T (sparse w) → sum w ≤ 4294967295 → T (legal w)
+unfolding legal
+legal-from w t h = yes-and (sparse w) (leb (sum w) 4294967295) t (le→leb (sum w) 4294967295 h)
