@@ -18,3 +18,4 @@ pub mod Measures
 pub mod Examples
 pub mod Formed
 pub mod Claims
+pub mod Putting

@@ -4,7 +4,7 @@ use mathlib.Core.Path.{_≡_, refl, sym, _∙_, ap}
 use mathlib.Core.Bool.{Bool, true, false, cond, not, _&&_, and-true, and-false}
 use mathlib.Core.List.{List, [], _∷_}
 use Prim.Native.Nat.{ℕ, zero, suc, _+_, _-_, _*_, _/_, _%_, _^_, _≤_, _<_}
-use native.Mathlib.Nat.{suc-add, zero-add, two-pow-succ, le-add-left, mul-le-mul-left, mul-one}
+use native.Mathlib.Nat.{suc-add, zero-add, le-add-left, mul-le-mul-left, mul-one}
 use native.Mathlib.Omega.{arith}
 use lib.ListN.{length}
 use lib.Pow.{pow-mono, pow-pos}
@@ -12,7 +12,7 @@ use Rattle.cells.specs.Cells.{number, bit, cells}
 use Rattle.cells.proofs.Numbers.{length-cells, number-lt, cells-low, push, digit-bit, digit-times}
 use Rattle.cells.proofs.Bits.{bit-high, bit-half}
 use Rattle.word.specs.Fill.{readFrom, read, clear}
-use Rattle.word.proofs.SetCells.{Top, top-bit}
+use Rattle.word.proofs.SetCells.{Top, top-bit, top-rest}
 use Rattle.word.proofs.Clearing.{clear-rule, clear-high}
 
 -- the cells of the second list where the first is set
@@ -44,11 +44,10 @@ pick-top : (m z w : ℕ) → Top m z
 pick-top m z w t =
     let j : ℕ = 63 - z in
     let r : ℕ = m - 2 ^ j in
-    let e : m ≡ 1 * 2 ^ j + r = omega (arith, t .least) in
-    let k : r < 2 ^ j = omega (arith, two-pow-succ j, t .below, t .least) in
+    let s = top-rest m z t in
     rw (t .shifted)
-    (pick-low (suc j) m w (t .small) (t .below) ∙ ap (λ (y : ℕ). pick (cells (suc j) y) (cells (suc j) w)) e ∙ pick-split j r w k
-    ∙ ap (λ (l : List Bool). bit w j ∷ l) (sym (pick-low j r w (omega (arith, t .small)) k)))
+    (pick-low (suc j) m w (t .small) (t .below) ∙ ap (λ (y : ℕ). pick (cells (suc j) y) (cells (suc j) w)) (s .0) ∙ pick-split j r w (s .1)
+    ∙ ap (λ (l : List Bool). bit w j ∷ l) (sym (pick-low j r w (omega (arith, t .small)) (s .1))))
 
 -- one turn
 more : (N out : ℕ) (b : Bool) (p q : List Bool) → p ≡ b ∷ q → N ≡ out * 2 ^ length p + number p

@@ -45,6 +45,10 @@ pub top-bit : (j r : ℕ) → r < 2 ^ j → bit (1 * 2 ^ j + r) j ≡ true
 unfolding bit
 top-bit j r h = rw (high 1 j h)
 
+-- a number is its first set cell and a rest below it
+pub top-rest : (m z : ℕ) → Top m z → (m ≡ 1 * 2 ^ (63 - z) + (m - 2 ^ (63 - z))) × (m - 2 ^ (63 - z) < 2 ^ (63 - z))
+top-rest m z t = (omega arith, omega (arith, two-pow-succ (63 - z)))
+
 -- ---- the last set cell
 
 -- the last set cell of x is worth 2 ^ t
