@@ -95,7 +95,7 @@ pub bit-above : (k s q r : ℕ) → r < 2 ^ s → bit (q * 2 ^ s + r) (k + s) �
 unfolding bit
 bit-above k s q r h =
     let e : (q * 2 ^ s + r) / 2 ^ (k + s) ≡ q / 2 ^ k =
-        ap (λ (m : ℕ). (q * 2 ^ s + r) / 2 ^ m) (add-comm k s) ∙ sym (shr-shr (q * 2 ^ s + r) s k) ∙ ap (λ (y : ℕ). y / 2 ^ k) (high q s h) in
+    ap (λ (m : ℕ). (q * 2 ^ s + r) / 2 ^ m) (add-comm k s) ∙ sym (shr-shr (q * 2 ^ s + r) s k) ∙ ap (λ (y : ℕ). y / 2 ^ k) (high q s h) in
     rw e
 
 -- a number doubled has at each digit the one below

@@ -25,6 +25,7 @@ over-word w x h = go (leb (2 ^ 46) w) (not (sparse (cells 46 w))) (ltb 429496729
   where
     refused : (n : ℕ) → Faithful (refusal n 0)
     refused n = record { number = omega arith; value = omega arith }
+
     go : (a b c : Bool) → Faithful (cond a (refusal 10 0) (cond b (refusal 11 0) (cond c (refusal 12 0) (result x))))
     go true b c = refused 10
     go false true c = refused 11
@@ -41,5 +42,5 @@ word-answers-faithful = record {
   encode = λ value. taken-apart _ (omega (arith, word-lt value));
   decode = λ word. over-word word _ (omega (arith, sum-fits word));
   fill = λ word. over-word word _ (omega (arith, fill-lt word));
-  capacity = λ word. over-word word _ (capacity-small word)
+  capacity = λ word. over-word word _ (capacity-small word);
 }

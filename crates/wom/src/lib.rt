@@ -7,12 +7,20 @@ use word::Filled;
 use word::Measured;
 ghost use mathlib.Core.Path.{_≡_};
 ghost use Rattle.word.specs.Answer.{
-    encodeAnswer, decodeAnswer, fillAnswer, capacityAnswer, decodedCode, filledCode, measuredCode
+  encodeAnswer,
+  decodeAnswer,
+  fillAnswer,
+  capacityAnswer,
+  decodedCode,
+  filledCode,
+  measuredCode,
 };
 ghost use Rattle.wom.specs.Packed.{packed};
 
 const HIGH_BIT: u64 = 10 << 56;
+
 const NEIGHBOURS: u64 = 11 << 56;
+
 const SUM_TOO_LARGE: u64 = 12 << 56;
 
 // The word of a value.

@@ -43,7 +43,7 @@ decode-encode : (x : ℕ) → x ≤ 4294967295 → decodeAnswer (number (zeckend
 decode-encode x h =
     let s : sum (cells 46 (number (zeckendorf 46 x))) ≡ x = ap sum (cells-word x) ∙ sum-of-word x h in
     let t : not (sparse (cells 46 (number (zeckendorf 46 x)))) ≡ false =
-        ap (λ (l : List Bool). not (sparse l)) (cells-word x) ∙ ap not (is-true (sparse (zeckendorf 46 x)) (sparse-word x h)) in
+    ap (λ (l : List Bool). not (sparse l)) (cells-word x) ∙ ap not (is-true (sparse (zeckendorf 46 x)) (sparse-word x h)) in
     word-taken (number (zeckendorf 46 x)) (sum (cells 46 (number (zeckendorf 46 x)))) (word-lt x) t (omega arith) ∙ ap result s
 
 encode-decode : (w x : ℕ) → decodeAnswer w ≡ result x → (x ≤ 4294967295) × (result (number (zeckendorf 46 x)) ≡ result w)
@@ -51,7 +51,7 @@ encode-decode w x e =
     let t = taken w (sum (cells 46 w)) x (sym e) in
     let g : x ≡ sum (cells 46 w) = given w (sum (cells 46 w)) x (sym e) in
     let l : Legal (cells 46 w) =
-        (length-cells 46 w, legal-from (cells 46 w) (holds (sparse (cells 46 w)) (t .apart)) (t .total)) in
+    (length-cells 46 w, legal-from (cells 46 w) (holds (sparse (cells 46 w)) (t .apart)) (t .total)) in
     (omega (arith, t .total), ap result (ap (λ (y : ℕ). number (zeckendorf 46 y)) g ∙ ap number (sym (only-word (cells 46 w) l)) ∙ number-cells 46 w (t .small)))
 
 pub one-legal-word : OneLegalWord
@@ -59,7 +59,7 @@ one-legal-word = record {
   some = λ x h. (legal-word x h, sum-of-word x h);
   only = only-word;
   decode-encode = decode-encode;
-  encode-decode = encode-decode
+  encode-decode = encode-decode;
 }
 
 -- ---- the fill
@@ -95,7 +95,7 @@ capacity-bounds = record {
   least = λ w h. bounds w h .0;
   greatest = λ w h. bounds w h .1;
   least-met = (zeckendorf 46 3889371024, legal-word 3889371024 (omega arith), at-least);
-  greatest-met = (zeckendorf 46 0, legal-word 0 (omega arith), at-most)
+  greatest-met = (zeckendorf 46 0, legal-word 0 (omega arith), at-most);
 }
 
 -- ---- second bits
@@ -114,12 +114,12 @@ second-bits-kept = record {
   read-back = λ w bits h. read-put false (fill w) bits ∙ fit-pad (capacity w) bits h;
   keeps-filled = put-kept;
   keeps-first = λ w bits t. kept-trans w (fill w) (put (fill w) bits) (fill-kept w) (put-kept w bits t);
-  cleared = λ w bits t. put-put false (fill w) bits _ ∙ clear-filled w t
+  cleared = λ w bits t. put-put false (fill w) bits _ ∙ clear-filled w t;
 }
 
 pub well-formed-words : WellFormedWords
 unfolding clear put read
 well-formed-words = record {
   comes-from = comes-from;
-  put-again = λ w. put-put false w _ (read w) ∙ put-read false w
+  put-again = λ w. put-put false w _ (read w) ∙ put-read false w;
 }

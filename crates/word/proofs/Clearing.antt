@@ -35,7 +35,7 @@ unfolding cells first rest
 by-rule zero C f e k l = absurd (omega arith)
 by-rule (suc n) C f e k l =
     let d : bit C n ∷ cells n C ≡ (bit f n && not (bit C (suc n))) ∷ putFrom (bit f n && not (bit C (suc n))) (cells n f) [] =
-        e ∙ clear-next (bit C (suc n)) (bit f n) (cells n f) in
+    e ∙ clear-next (bit C (suc n)) (bit f n) (cells n f) in
     let h : bit C n ≡ (bit f n && not (bit C (suc n))) = ap first d in
     let t : cells n C ≡ putFrom (bit C n) (cells n f) [] = ap rest d ∙ ap (λ (b : Bool). putFrom b (cells n f) []) (sym h) in
     ⊎-elim (λ q. subst (λ (m : ℕ). bit C m ≡ (bit f m && not (bit C (suc m)))) (sym q) h)
@@ -56,6 +56,7 @@ clear-rule f i h = go (ltb i 46) refl
   where
     C : ℕ
     C = number (clear (cells 46 f))
+
     go : (b : Bool) → ltb i 46 ≡ b → bit C i ≡ (bit f i && not (bit C (suc i)))
     go true e =
         by-rule 46 C f (cells-clear f ∙ ap (λ (b : Bool). putFrom b (cells 46 f) []) (sym (clear-high f 46 (omega arith)))) i (ltb-true i 46 e)

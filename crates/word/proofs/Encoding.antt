@@ -62,12 +62,12 @@ number-none = number-46 0 0 (omega arith) (omega (arith, weight-one)) ∙ nothin
 -- ---- the guess
 
 guessed : ℕ → Bool
-guessed j = near j ((j * 23 + 20) / 16)
+guessed j = near j ((j + 1) * 366 / 256)
 
 -- the rule of the guess, for all 32 places of the highest digit by one computed test
-pub guess-near : (j : ℕ) → j < 32 → near j ((j * 23 + 20) / 16) ≡ true
+pub guess-near : (j : ℕ) → j < 32 → near j ((j + 1) * 366 / 256) ≡ true
 unfolding guessed near weight seriesFrom all
-guess-near j h = is-true (near j ((j * 23 + 20) / 16)) (all-below guessed 32 tt j h)
+guess-near j h = is-true (near j ((j + 1) * 366 / 256)) (all-below guessed 32 tt j h)
 
 -- the first set cell of x is at place r or up to d places lower
 pub record Within (d x r : ℕ) : Type 0 where
@@ -154,7 +154,7 @@ apart-turn word x n w p e a =
       above = b .0 * 2 + 1;
       places = n;
       digits = or-place word x n p a ∙ ap (λ (y : ℕ). y + 2 ^ n) (b .1) ∙ one-more (b .0) n;
-      left = omega (arith, p .least, p .below, weight-next n, weight-le n)
+      left = omega (arith, p .least, p .below, weight-next n, weight-le n);
     }
 
 -- one turn

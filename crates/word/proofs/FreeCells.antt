@@ -91,6 +91,7 @@ added-next w i h = go (ltb i 46) refl
   where
     F : ℕ
     F = number (fill (cells 46 w))
+
     go : (b : Bool) → ltb i 46 ≡ b → (bit F i && not (bit w i)) ≡ (bit (free w) i && not (bit F (suc i) && not (bit w (suc i))))
     go true e =
         rw (free-bit w i, e, full-rule w i (ltb-true i 46 e))
@@ -142,8 +143,8 @@ full-free w l e =
 free-full : (w : ℕ) → w < 2 ^ 46 → free w ≡ 0 → number (fill (cells 46 w)) ≡ w
 free-full w l e =
     let none : number (clear (cells 46 0)) ≡ 0 =
-        same-bits 46 (number (clear (cells 46 0))) 0 (clear-lt 0) (omega arith)
-        (λ i. clear-rule 0 i (omega arith) ∙ rw (bit-zero i)) in
+    same-bits 46 (number (clear (cells 46 0))) 0 (clear-lt 0) (omega arith)
+    (λ i. clear-rule 0 i (omega arith) ∙ rw (bit-zero i)) in
     sym (fill-clear w l) ∙ rw (e, none) (or-zero-r w)
 
 -- the test of the code is the definition's
@@ -152,8 +153,8 @@ unfolding full fill
 full-test w l =
     same-tests (eqb (free w) 0) (full (cells 46 w))
     (λ t.
-      let e : fill (cells 46 w) ≡ cells 46 w = sym (cells-fill w) ∙ ap (cells 46) (free-full w l (eqb-true (free w) 0 t)) in
-      rw e (is-true (kept (cells 46 w) (cells 46 w)) (kept-self (cells 46 w))))
+    let e : fill (cells 46 w) ≡ cells 46 w = sym (cells-fill w) ∙ ap (cells 46) (free-full w l (eqb-true (free w) 0 t)) in
+    rw e (is-true (kept (cells 46 w) (cells 46 w)) (kept-self (cells 46 w))))
     (λ t.
-      let e : fill (cells 46 w) ≡ cells 46 w = kept-fill→same false (cells 46 w) (holds (kept (fill (cells 46 w)) (cells 46 w)) t) in
-      eq-eqb (free w) 0 (full-free w l (ap number e ∙ number-cells 46 w l)))
+    let e : fill (cells 46 w) ≡ cells 46 w = kept-fill→same false (cells 46 w) (holds (kept (fill (cells 46 w)) (cells 46 w)) t) in
+    eq-eqb (free w) 0 (full-free w l (ap number e ∙ number-cells 46 w l)))

@@ -61,14 +61,22 @@ same w x = length-cells 46 w ∙ sym (length-cells 46 x)
 small : (w : ℕ) → w ≤ 0x288545101124 → T (sparse (cells 46 w)) → sum (cells 46 w) ≤ 4294967295
 unfolding top
 small w h t =
-    omega (arith, top-sum, order-le (cells 46 w) (cells 46 top) (same w top) t top-sparse
-    (omega (arith, number-cells 46 w (omega arith), number-cells 46 top (omega arith))))
+    omega (
+      arith,
+      top-sum,
+      order-le (cells 46 w) (cells 46 top) (same w top) t top-sparse
+          (omega (arith, number-cells 46 w (omega arith), number-cells 46 top (omega arith))),
+    )
 
 large : (w : ℕ) → w < 2 ^ 46 → 0x288545101124 < w → T (sparse (cells 46 w)) → 4294967295 < sum (cells 46 w)
 unfolding top
 large w l h t =
-    omega (arith, top-sum, order-lt (cells 46 top) (cells 46 w) (same top w) top-sparse t
-    (omega (arith, number-cells 46 w l, number-cells 46 top (omega arith))))
+    omega (
+      arith,
+      top-sum,
+      order-lt (cells 46 top) (cells 46 w) (same top w) top-sparse t
+          (omega (arith, number-cells 46 w l, number-cells 46 top (omega arith))),
+    )
 
 -- ---- the two answers of the test
 

@@ -31,6 +31,7 @@ shift-one j h = ap (λ (y : ℕ). y % 2 ^ 64) (zero-one (2 ^ j)) ∙ mod-eq-of-l
   where
     zero-one : (y : ℕ) → 1 * y ≡ y
     zero-one y = omega arith
+
     less : j < 46 → j ≤ 46
     less l = omega arith
 
@@ -74,21 +75,18 @@ low-cell (suc k) x p h = go (x % 2) refl (λ q. low-cell k (x / 2) q (omega (ari
     go (suc zero) e f = record { above = x / 2; parts = odd x e }
     go (suc (suc d)) e f = absurd (omega arith)
 
--- the last set cell goes with one less, and the and of both
-and-power : (t : ℕ) → bitAnd (2 ^ t) (2 ^ t - 1) ≡ 0
-and-power t = and-mask (2 ^ t) t ∙ mod-self (2 ^ t)
+pub low-small : (x t : ℕ) → x < 2 ^ 46 → Low x t → t < 46
+low-small x t h l = below-46 t x (omega (arith, l .parts)) h
 
-pub and-less : (x t : ℕ) (l : Low x t) → bitAnd x (x - 1) ≡ l .above * 2 ^ suc t + 0
-and-less x t l =
+-- the number without its last set cell, which is a 0 in its place
+pub without-last : (x t : ℕ) (l : Low x t) → bitAnd x (x - 1) ≡ l .above * 2 ^ suc t + 0
+without-last x t l =
     let q : ℕ = l .above in
     let e : x - 1 ≡ q * 2 ^ suc t + (2 ^ t - 1) = omega (arith, l .parts, pow-pos t) in
     ap (λ (y : ℕ). bitAnd y (x - 1)) (l .parts)
     ∙ ap (bitAnd (q * 2 ^ suc t + 2 ^ t)) e
     ∙ and-block (suc t) q q (2 ^ t) (2 ^ t - 1) (power-lt t) (omega (arith, power-lt t))
-    ∙ rw (and-self q, and-power t)
-
-pub low-small : (x t : ℕ) → x < 2 ^ 46 → Low x t → t < 46
-low-small x t h l = below-46 t x (omega (arith, l .parts)) h
+    ∙ rw (and-self q, and-mask (2 ^ t) t, mod-self (2 ^ t))
 
 pub low-less : (x t : ℕ) → Low x t → bitAnd x (x - 1) < x
-low-less x t l = omega (arith, and-less x t l, l .parts, pow-pos t)
+low-less x t l = omega (arith, without-last x t l, l .parts, pow-pos t)

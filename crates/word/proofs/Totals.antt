@@ -1,17 +1,19 @@
 -- The sum of a word by its last set cell: that cell's weight, and the sum of the word without it.
 -- Assumes nothing.
 use mathlib.Core.Path.{_≡_, refl, _∙_, ap}
-use Prim.Native.Nat.{ℕ, zero, suc, _+_, _-_, _*_, _^_, _<_}
+use mathlib.Core.Bool.{cond}
+use Prim.Native.Nat.{ℕ, zero, suc, _+_, _-_, _*_, _%_, _^_, _<_}
 use native.Mathlib.Nat.{suc-add, zero-add, add-zero, le-add-left}
 use native.Mathlib.Omega.{arith}
 use lib.Bits.{bitAnd}
 use lib.Pow.{pow-pos}
-use Rattle.cells.specs.Cells.{cells}
-use Rattle.cells.proofs.Numbers.{cells-low}
+use Rattle.cells.specs.Cells.{bit, cells}
+use Rattle.cells.proofs.Numbers.{length-cells, cells-low, cells-mod}
 use Rattle.cells.proofs.Bits.{bit-high, bit-above}
 use Rattle.word.specs.Word.{weight, sum}
-use Rattle.word.proofs.Sums.{sum-cells}
-use Rattle.word.proofs.SetCells.{power-lt, top-bit, Low, and-less, low-small}
+use Rattle.word.proofs.Weights.{weight-46}
+use Rattle.word.proofs.Sums.{sum-bound, sum-cells}
+use Rattle.word.proofs.SetCells.{power-lt, top-bit, Low, low-small, without-last}
 
 -- zeros above the n low cells add nothing
 sum-above : (k n x : ℕ) → x < 2 ^ n → sum (cells (k + n) x) ≡ sum (cells n x)
@@ -48,7 +50,7 @@ sum-low-cell x t h l =
     let b : t < 46 = low-small x t h l in
     let e : (45 - t) + suc t ≡ 46 = omega arith in
     let p = rw e at (sum-parts (45 - t) (suc t) q (2 ^ t) 0 (power-lt t) (pow-pos (suc t))) in
-    rw (and-less x t l) (ap (λ (y : ℕ). sum (cells 46 y)) (l .parts) ∙ omega (arith, p, sum-power t, sum-none (suc t)))
+    rw (without-last x t l) (ap (λ (y : ℕ). sum (cells 46 y)) (l .parts) ∙ omega (arith, p, sum-power t, sum-none (suc t)))
 
 -- ---- the turns of the loop
 
@@ -58,3 +60,20 @@ sum-turn total x word w t b l e h = omega (arith, sum-low-cell x t b l)
 
 pub sum-end : (total x word : ℕ) → x ≡ 0 → total + sum (cells 46 x) ≡ sum (cells 46 word) → total ≡ sum (cells 46 word)
 sum-end total x word e h = omega (arith, rw (e, sum-none 46) at h)
+
+-- ---- the last 44 cells and the first two
+
+-- the weights of 44 cells have a sum below weight 46
+pub low-fits : (x : ℕ) → x < 2 ^ 44 → sum (cells 46 x) < 2 ^ 32
+low-fits x h =
+    omega (arith, sum-above 2 44 x h, rw (length-cells 44 x) at (sum-bound (cells 44 x)), weight-46)
+
+pub sum-first-two : (x : ℕ) → sum (cells 46 x) ≡ sum (cells 46 (x % 2 ^ 44)) + cond (bit x 44) (weight 45) 0 + cond (bit x 45) (weight 46) 0
+sum-first-two x =
+    omega (
+      arith,
+      sum-cells 45 x,
+      sum-cells 44 x,
+      sum-above 2 44 (x % 2 ^ 44) (omega arith),
+      ap sum (cells-mod 44 x),
+    )

@@ -3,16 +3,22 @@
 // Encode, decode, fill and measure a word, each for every number of 64 bits. Decode, fill and measure refuse a word that is not
 // legal, by one enum each: a bit above cell 0, two neighbouring cells set, or too large a sum, the first that holds. The modules have
 // the functions that pages are made of; those take words that are known to have 46 cells.
-pub mod series;
-pub mod separators;
 pub mod second;
+pub mod separators;
+pub mod series;
 
 ghost use mathlib.Core.Path.{_≡_};
 ghost use Rattle.cells.specs.Cells.{number};
 ghost use Rattle.word.specs.Word.{zeckendorf};
 ghost use Rattle.word.specs.Answer.{
-    decodeAnswer, fillAnswer, capacityAnswer, decodedCode, filledCode, measuredCode
+  decodeAnswer,
+  fillAnswer,
+  capacityAnswer,
+  decodedCode,
+  filledCode,
+  measuredCode,
 };
+ghost use Rattle.word.specs.Weights.{weights};
 
 // What decoding a word gives.
 pub enum Decoded {
@@ -46,8 +52,9 @@ pub fn encode(value: u32) -> u64
     series::encode_with(&table, value)
 }
 
-// The value of a word.
-pub fn decode(word: u64) -> Decoded
+// The value of a word, with the table at hand.
+fn decode_with(table: &[u32; 46], word: u64) -> Decoded
+    requires { ⌜ now table ≡ weights ⌝ }
     ensures { λ r. ⌜ decodedCode r ≡ decodeAnswer word ⌝ }
 {
     if 0x4000_0000_0000 <= word {
@@ -56,19 +63,27 @@ pub fn decode(word: u64) -> Decoded
     if series::has_neighbours(word) {
         return Decoded::Neighbours;
     }
-    let table = series::WEIGHTS;
-    let total = series::sum_with(&table, word);
+    let total = series::sum_with(table, word);
     if 4294967295 < total {
         return Decoded::SumTooLarge;
     }
     Decoded::Value(total as u32)
 }
 
+// The value of a word.
+pub fn decode(word: u64) -> Decoded
+    ensures { λ r. ⌜ decodedCode r ≡ decodeAnswer word ⌝ }
+{
+    let table = series::WEIGHTS;
+    decode_with(&table, word)
+}
+
 // The word after the fill.
 pub fn fill(word: u64) -> Filled
     ensures { λ r. ⌜ filledCode r ≡ fillAnswer word ⌝ }
 {
-    let d = decode(word);
+    let table = series::WEIGHTS;
+    let d = decode_with(&table, word);
     match d {
         Decoded::Value(_) => Filled::Word(separators::fill_word(word)),
         Decoded::HighBit => Filled::HighBit,
@@ -77,15 +92,16 @@ pub fn fill(word: u64) -> Filled
     }
 }
 
-// The number of data cells after the fill.
+// The number of data cells of a word after the fill.
 pub fn capacity(word: u64) -> Measured
     ensures { λ r. ⌜ measuredCode r ≡ capacityAnswer word ⌝ }
 {
-    let f = fill(word);
-    match f {
-        Filled::Word(w) => Measured::Capacity(second::data_cells(w)),
-        Filled::HighBit => Measured::HighBit,
-        Filled::Neighbours => Measured::Neighbours,
-        Filled::SumTooLarge => Measured::SumTooLarge,
+    let table = series::WEIGHTS;
+    let d = decode_with(&table, word);
+    match d {
+        Decoded::Value(_) => Measured::Capacity(second::data_cells(separators::fill_word(word))),
+        Decoded::HighBit => Measured::HighBit,
+        Decoded::Neighbours => Measured::Neighbours,
+        Decoded::SumTooLarge => Measured::SumTooLarge,
     }
 }

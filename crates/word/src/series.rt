@@ -3,7 +3,7 @@ ghost use mathlib.Core.Path.{_≡_};
 ghost use mathlib.Core.Bool.{true, not, cond};
 ghost use Prim.Native.Nat.{suc, _-_, _^_, _<_};
 ghost use lib.Dec.{ltb};
-ghost use Rattle.cells.specs.Cells.{number, cells};
+ghost use Rattle.cells.specs.Cells.{number, bit, cells};
 ghost use Rattle.word.specs.Word.{weight, sum, sparse, legalWord, zeckendorf};
 ghost use Rattle.word.specs.Weights.{weights};
 ghost use Rattle.word.specs.Bitwise.{near};
@@ -71,7 +71,7 @@ fn guess(top: u32) -> usize
     requires { ⌜ top < 32 ⌝ }
     ensures { λ r. ⌜ near top r ≡ true ⌝ }
 {
-    (top as usize * 23 + 20) / 16
+    (top as usize + 1) * 366 / 256
 }
 
 // One place lower where the weight is more than what is left.
@@ -90,31 +90,50 @@ pub fn encode_with(table: &[u32; 46], value: u32) -> u64
     let mut rest = value;
     let mut word: u64 = 0;
     while rest != 0 {
-        let n = lowered(table, lowered(table, guess(31 - u32::leading_zeros(rest)), rest), rest);
+        let n = lowered(
+            table,
+            lowered(table, guess(31 - u32::leading_zeros(rest)), rest),
+            rest,
+        );
         rest -= weight_in(table, n);
         word |= 1 << n;
     }
     word
 }
 
-fn wide(x: u32) -> u64
-    ensures { λ r. ⌜ r ≡ x ⌝ }
+// The sum of the set weights of a word's last 44 cells, which always fits 32 bits: a turn for each set cell, the last first.
+fn low_sum(table: &[u32; 46], word: u64) -> u32
+    requires { ⌜ (now table ≡ weights) × (word < 2 ^ 44) ⌝ }
+    ensures { λ r. ⌜ r ≡ sum (cells 46 word) ⌝ }
 {
-    x as u64
+    let mut rest = word;
+    let mut total: u32 = 0;
+    while rest != 0 {
+        total += weight_in(table, u64::trailing_zeros(rest) as usize);
+        rest &= rest - 1;
+    }
+    total
 }
 
-// The sum of the set weights of a word: a turn for each set cell, the last first.
+// What the cell at place n, from the last, adds to the sum.
+fn share(table: &[u32; 46], word: u64, n: usize) -> u64
+    requires { ⌜ (now table ≡ weights) × (n < 46) ⌝ }
+    ensures { λ r. ⌜ r ≡ cond (bit word n) (weight (suc n)) 0 ⌝ }
+{
+    if (word >> n) % 2 == 1 {
+        weight_in(table, n) as u64
+    } else {
+        0
+    }
+}
+
+// The sum of the set weights of a word.
 pub fn sum_with(table: &[u32; 46], word: u64) -> u64
     requires { ⌜ (now table ≡ weights) × (word < 2 ^ 46) ⌝ }
     ensures { λ r. ⌜ r ≡ sum (cells 46 word) ⌝ }
 {
-    let mut rest = word;
-    let mut total: u64 = 0;
-    while rest != 0 {
-        total += wide(weight_in(table, u64::trailing_zeros(rest) as usize));
-        rest &= rest - 1;
-    }
-    total
+    let low = low_sum(table, word % 0x1000_0000_0000) as u64;
+    low + share(table, word, 44) + share(table, word, 45)
 }
 
 // Whether two neighbouring cells are both set.

@@ -5,14 +5,14 @@ use Rattle.word.proofs.Encoding.{guess-near}
 use Rattle.word.proofs.series.guess.Statement.{statement}
 use Rattle.word.proofs.series.guess.Tie as tie
 
-mul-result : tie.Need-mul-result
-mul-result c = search needs
-
 add-result : tie.Need-add-result
 add-result c = search needs
+
+mul-result : tie.Need-mul-result
+mul-result c = search needs
 
 returns : tie.Need-returns
 returns c = guess-near _ (c .pre)
 
 pub guess-spec : {M : Type 1} → statement M
-guess-spec = tie.close (tie.spec mul-result add-result returns)
+guess-spec = tie.close (tie.spec add-result mul-result returns)

@@ -1,75 +1,44 @@
--- `word::series::sum_with` meets its contract. The invariant: the total so far and the sum of what is left make up the whole.
+-- `word::series::sum_with` meets its contract: the sum of the last 44 cells, and what the first two add.
 -- Assumes nothing.
-use mathlib.Core.Path.{_≡_, _∙_}
-use Prim.Native.Nat.{_+_, _-_, _<_, _^_}
+use mathlib.Core.Path.{_≡_}
+use Prim.Native.Nat.{_+_}
 use native.Mathlib.Omega.{arith}
 use borrow.Author.Needs.{needs}
-use lib.Bits.{bitAnd}
-use lib.Count.{trailingZeros}
 use Rattle.cells.specs.Cells.{cells}
 use Rattle.word.specs.Word.{sum}
 use Rattle.word.proofs.Sums.{sum-fits}
-use Rattle.word.proofs.SetCells.{Low, low-cell, low-small, low-less}
-use Rattle.word.proofs.Totals.{sum-turn, sum-end}
+use Rattle.word.proofs.Totals.{sum-first-two}
 use Rattle.word.proofs.series.sum_with.Statement.{statement}
 use Rattle.word.proofs.series.sum_with.Tie as tie
 
-abbrev Inv-loop : tie.InvT-loop
-Inv-loop table word rest₀ total₀ rest total = (rest < 2 ^ 46) × (total + sum (cells 46 rest) ≡ sum (cells 46 word))
+low-sum-requires : tie.Need-low-sum-requires
+low-sum-requires c κs = search needs
 
-abbrev μ-loop : tie.MeasureT-loop
-μ-loop table word rest₀ total₀ rest total = rest
+cast-low : tie.Need-cast-low
+cast-low c = search needs
 
-loop-holds : tie.Need-loop-holds Inv-loop μ-loop
-loop-holds c = (c .pre .1, omega arith)
+share-requires : tie.Need-share-requires
+share-requires c κs = search needs
 
-low : (c : tie.In-loop Inv-loop μ-loop) → Low (c .before .loop .rest) (trailingZeros 64 (c .before .loop .rest))
-low c = low-cell 64 (c .before .loop .rest) (omega arith) (omega (arith, c .before .loop .inv .0))
+add-result : tie.Need-add-result
+add-result c =
+    let w = c .before .before .args .word in
+    omega (arith, c .share .ensures, c .before .low-sum .ensures, sum-first-two w, sum-fits w)
 
-cast-weight-in : tie.Need-cast-weight-in Inv-loop μ-loop
-cast-weight-in c = omega (arith, low-small _ _ (c .before .loop .inv .0) (low c))
+share-requires-2 : tie.Need-share-requires-2
+share-requires-2 c κs = search needs
 
-weight-in-requires : tie.Need-weight-in-requires Inv-loop μ-loop
-weight-in-requires c κs = (c .before .before .pre .0, low-small _ _ (c .before .loop .inv .0) (low c))
+whole : (c : tie.After-share2) → c .before .before .low-sum .result + c .before .share .result + c .share2 .result ≡ sum (cells 46 (c .before .before .before .args .word))
+whole c =
+    omega (arith, c .share2 .ensures, c .before .share .ensures, c .before .before .low-sum .ensures, sum-first-two (c .before .before .before .args .word))
 
-wide-requires : tie.Need-wide-requires Inv-loop μ-loop
-wide-requires c κs = search needs
+add-result-2 : tie.Need-add-result-2
+add-result-2 c = omega (arith, whole c, sum-fits (c .before .before .before .args .word))
 
-turned : (c : tie.After-wide Inv-loop μ-loop)
-    → c .before .before .before .loop .total + c .wide .result
-    + sum (cells 46 (bitAnd (c .before .before .before .loop .rest) (c .before .before .before .loop .rest - 1)))
-    ≡ sum (cells 46 (c .before .before .before .before .args .word))
-turned c =
-    let b = c .before .before in
-    sum-turn _ _ _ _ _ (b .before .loop .inv .0) (low b) (c .wide .ensures ∙ c .before .weight-in .ensures) (b .before .loop .inv .1)
-
-add-total : tie.Need-add-total Inv-loop μ-loop
-add-total c = omega (arith, turned c, sum-fits (c .before .before .before .before .args .word))
-
-sub-rest : tie.Need-sub-rest Inv-loop μ-loop
-sub-rest c = omega arith
-
-loop-less : tie.Need-loop-less Inv-loop μ-loop
-loop-less c = low-less _ _ (low (c .before .before))
-
-loop-again : tie.Need-loop-again Inv-loop μ-loop
-loop-again c = (omega (arith, low-less _ _ (low (c .before .before)), c .before .before .before .loop .inv .0), turned c)
-
-returns : tie.Need-returns Inv-loop μ-loop
-returns c = sum-end _ _ _ (omega arith) (c .before .loop .inv .1)
+returns : tie.Need-returns
+returns c = whole c
 
 pub sum-with-spec : {M : Type 1} → statement M
 sum-with-spec =
     tie.close
-    (tie.spec
-    Inv-loop
-    μ-loop
-    loop-holds
-    cast-weight-in
-    weight-in-requires
-    wide-requires
-    add-total
-    sub-rest
-    loop-less
-    loop-again
-    returns)
+    (tie.spec low-sum-requires cast-low share-requires add-result share-requires-2 add-result-2 returns)
