@@ -1,18 +1,20 @@
 -- The sum of a word by its last set cell: that cell's weight, and the sum of the word without it.
 -- Assumes nothing.
-use mathlib.Core.Path.{_≡_, refl, _∙_, ap}
-use mathlib.Core.Bool.{cond}
-use Prim.Native.Nat.{ℕ, zero, suc, _+_, _-_, _*_, _%_, _^_, _<_}
-use native.Mathlib.Nat.{suc-add, zero-add, add-zero, le-add-left}
+use mathlib.Core.Path.{_≡_, refl, sym, _∙_, ap}
+use mathlib.Core.Bool.{true}
+use Prim.Native.Nat.{ℕ, zero, suc, _+_, _-_, _*_, _%_, _^_, _≤_, _<_}
+use native.Mathlib.Nat.{suc-add, zero-add, add-zero, le-add-left, mod-eq-of-lt}
 use native.Mathlib.Omega.{arith}
 use lib.Bits.{bitAnd}
+use lib.Dec.{T}
 use lib.Pow.{pow-pos}
 use Rattle.cells.specs.Cells.{bit, cells}
 use Rattle.cells.proofs.Numbers.{length-cells, cells-low, cells-mod}
 use Rattle.cells.proofs.Bits.{bit-high, bit-above}
-use Rattle.word.specs.Word.{weight, sum}
+use Rattle.word.specs.Word.{weight, sum, sparse}
+use Rattle.word.proofs.Tests.{holds}
 use Rattle.word.proofs.Weights.{weight-46}
-use Rattle.word.proofs.Sums.{sum-bound, sum-cells}
+use Rattle.word.proofs.Sums.{sparse-rest, sum-lt, sum-cells}
 use Rattle.word.proofs.SetCells.{power-lt, top-bit, Low, low-small, without-last}
 
 -- zeros above the n low cells add nothing
@@ -61,19 +63,25 @@ sum-turn total x word w t b l e h = omega (arith, sum-low-cell x t b l)
 pub sum-end : (total x word : ℕ) → x ≡ 0 → total + sum (cells 46 x) ≡ sum (cells 46 word) → total ≡ sum (cells 46 word)
 sum-end total x word e h = omega (arith, rw (e, sum-none 46) at h)
 
--- ---- the last 44 cells and the first two
+-- ---- cell 0 and the others
 
--- the weights of 44 cells have a sum below weight 46
-pub low-fits : (x : ℕ) → x < 2 ^ 44 → sum (cells 46 x) < 2 ^ 32
-low-fits x h =
-    omega (arith, sum-above 2 44 x h, rw (length-cells 44 x) at (sum-bound (cells 44 x)), weight-46)
+-- a word without its cell 0, which is the word itself where that cell is 0
+sum-others : (x : ℕ) → sum (cells 46 (x % 2 ^ 45)) ≡ sum (cells 45 x)
+sum-others x = sum-above 1 45 (x % 2 ^ 45) (omega arith) ∙ ap sum (cells-mod 45 x)
 
-pub sum-first-two : (x : ℕ) → sum (cells 46 x) ≡ sum (cells 46 (x % 2 ^ 44)) + cond (bit x 44) (weight 45) 0 + cond (bit x 45) (weight 46) 0
-sum-first-two x =
-    omega (
-      arith,
-      sum-cells 45 x,
-      sum-cells 44 x,
-      sum-above 2 44 (x % 2 ^ 44) (omega arith),
-      ap sum (cells-mod 44 x),
-    )
+sparse-others : (x : ℕ) → sparse (cells 46 x) ≡ true → T (sparse (cells 45 x))
+unfolding cells
+sparse-others x t = sparse-rest (bit x 45) (cells 45 x) (holds (sparse (cells 46 x)) t)
+
+pub others-fit : (x : ℕ) → sparse (cells 46 x) ≡ true → sum (cells 46 (x % 2 ^ 45)) < 2 ^ 32
+others-fit x t =
+    omega (arith, sum-others x, rw (length-cells 45 x) at (sum-lt (cells 45 x) (sparse-others x t)), weight-46)
+
+pub first-clear : (x : ℕ) → x < 2 ^ 45 → sum (cells 46 x) ≡ sum (cells 46 (x % 2 ^ 45))
+first-clear x h = ap (λ (y : ℕ). sum (cells 46 y)) (sym (mod-eq-of-lt h))
+
+pub first-set : (x : ℕ) → 2 ^ 45 ≤ x → x < 2 ^ 46 → sum (cells 46 x) ≡ weight 46 + sum (cells 46 (x % 2 ^ 45))
+first-set x l h =
+    let e : x ≡ 1 * 2 ^ 45 + x % 2 ^ 45 = omega arith in
+    ap (λ (y : ℕ). sum (cells 46 y)) e ∙ sum-split 45 (x % 2 ^ 45) (omega arith)
+    ∙ omega (arith, sum-above 1 45 (x % 2 ^ 45) (omega arith))

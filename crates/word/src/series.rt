@@ -3,7 +3,7 @@ ghost use mathlib.Core.Path.{_≡_};
 ghost use mathlib.Core.Bool.{true, not, cond};
 ghost use Prim.Native.Nat.{suc, _-_, _^_, _<_};
 ghost use lib.Dec.{ltb};
-ghost use Rattle.cells.specs.Cells.{number, bit, cells};
+ghost use Rattle.cells.specs.Cells.{number, cells};
 ghost use Rattle.word.specs.Word.{weight, sum, sparse, legalWord, zeckendorf};
 ghost use Rattle.word.specs.Weights.{weights};
 ghost use Rattle.word.specs.Bitwise.{near};
@@ -101,9 +101,9 @@ pub fn encode_with(table: &[u32; 46], value: u32) -> u64
     word
 }
 
-// The sum of the set weights of a word's last 44 cells, which always fits 32 bits: a turn for each set cell, the last first.
-fn low_sum(table: &[u32; 46], word: u64) -> u32
-    requires { ⌜ (now table ≡ weights) × (word < 2 ^ 44) ⌝ }
+// The sum of the set weights of a word, where it fits 32 bits: a turn for each set cell, the last first.
+fn small_sum(table: &[u32; 46], word: u64) -> u32
+    requires { ⌜ (now table ≡ weights) × (word < 2 ^ 46) × (sum (cells 46 word) < 2 ^ 32) ⌝ }
     ensures { λ r. ⌜ r ≡ sum (cells 46 word) ⌝ }
 {
     let mut rest = word;
@@ -115,25 +115,16 @@ fn low_sum(table: &[u32; 46], word: u64) -> u32
     total
 }
 
-// What the cell at place n, from the last, adds to the sum.
-fn share(table: &[u32; 46], word: u64, n: usize) -> u64
-    requires { ⌜ (now table ≡ weights) × (n < 46) ⌝ }
-    ensures { λ r. ⌜ r ≡ cond (bit word n) (weight (suc n)) 0 ⌝ }
-{
-    if (word >> n) % 2 == 1 {
-        weight_in(table, n) as u64
-    } else {
-        0
-    }
-}
-
-// The sum of the set weights of a word.
+// The sum of the set weights of a word without neighbours. Without cell 0 it is below weight number 46, so it fits 32 bits.
 pub fn sum_with(table: &[u32; 46], word: u64) -> u64
-    requires { ⌜ (now table ≡ weights) × (word < 2 ^ 46) ⌝ }
+    requires { ⌜ (now table ≡ weights) × (word < 2 ^ 46) × (sparse (cells 46 word) ≡ true) ⌝ }
     ensures { λ r. ⌜ r ≡ sum (cells 46 word) ⌝ }
 {
-    let low = low_sum(table, word % 0x1000_0000_0000) as u64;
-    low + share(table, word, 44) + share(table, word, 45)
+    let low = small_sum(table, word % 0x2000_0000_0000) as u64;
+    if word < 0x2000_0000_0000 {
+        return low;
+    }
+    weight_in(table, 45) as u64 + low
 }
 
 // Whether two neighbouring cells are both set.

@@ -3,6 +3,7 @@
 use mathlib.Core.Path.{sym, _∙_, ap}
 use native.Mathlib.Omega.{arith}
 use borrow.Author.Needs.{needs}
+use borrow.Author.Tests.{not-false}
 use Rattle.word.specs.Answer.{result}
 use Rattle.word.proofs.Answers.{high-refused, neighbours-refused, sum-refused, word-taken}
 use Rattle.word.proofs.decode_with.Statement.{statement}
@@ -19,7 +20,11 @@ returns-2 c =
     sym (neighbours-refused _ _ (c .before .before .if1 .left) (sym (c .before .has-neighbours .ensures) ∙ c .if2 .taken))
 
 sum-with-requires : tie.Need-sum-with-requires
-sum-with-requires c κs = (c .before .before .before .pre, c .before .before .if1 .left)
+sum-with-requires c κs = (
+  c .before .before .before .pre,
+  c .before .before .if1 .left,
+  not-false _ (sym (c .before .has-neighbours .ensures) ∙ c .if2 .left),
+)
 
 returns-3 : tie.Need-returns-3
 returns-3 c =
