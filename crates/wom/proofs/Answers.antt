@@ -2,15 +2,13 @@
 -- Assumes nothing.
 use mathlib.Core.Bool.{Bool, true, false, cond, not}
 use Prim.Native.Nat.{ℕ, _^_, _<_}
-use native.Mathlib.Nat.{pow-suc}
 use native.Mathlib.Omega.{arith}
 use lib.Dec.{leb, ltb}
-use lib.ListN.{length}
 use Rattle.cells.specs.Cells.{cells, number}
 use Rattle.cells.proofs.Numbers.{length-cells}
 use Rattle.word.specs.Word.{sum, sparse}
-use Rattle.word.specs.Fill.{fill, readFrom, read, capacity}
-use Rattle.word.specs.Answer.{Answer, result, refusal, ifLegal}
+use Rattle.word.specs.Fill.{fill, read, capacity}
+use Rattle.word.specs.Answer.{result, refusal, ifLegal}
 use Rattle.word.proofs.Sums.{sum-fits, word-lt}
 use Rattle.word.proofs.Filling.{capacity-le, length-fill}
 use Rattle.word.proofs.FreeCells.{fill-lt}

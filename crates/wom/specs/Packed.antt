@@ -2,7 +2,7 @@
 -- result, or the refusal's index.
 -- Assumes nothing.
 use mathlib.Core.Path.{_≡_}
-use Prim.Native.Nat.{ℕ, _+_, _*_, _/_, _%_, _^_, _≤_}
+use Prim.Native.Nat.{ℕ, _+_, _*_, _/_, _%_, _^_}
 use Rattle.word.specs.Answer.{Answer, result, refusal, encodeAnswer, decodeAnswer, fillAnswer, capacityAnswer}
 
 abbrev pub packed : Answer → ℕ

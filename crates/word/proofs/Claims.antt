@@ -1,9 +1,9 @@
 -- The claims of specs/Claims.antt.
 -- Assumes nothing.
-use mathlib.Core.Bool.{Bool, true, false, not}
+use mathlib.Core.Bool.{Bool, false, not}
 use mathlib.Core.List.{List}
 use mathlib.Core.Path.{_≡_, refl, sym, ap, _∙_}
-use Prim.Native.Nat.{ℕ, _^_, _≤_, _<_}
+use Prim.Native.Nat.{ℕ, _≤_}
 use native.Mathlib.Omega.{arith}
 use lib.Dec.{T}
 use lib.ListN.{length}
@@ -11,14 +11,14 @@ use Rattle.cells.specs.Cells.{first, number, cells}
 use Rattle.cells.proofs.Numbers.{length-cells, number-cells, cells-of}
 use Rattle.word.specs.Word.{seriesFrom, weight, sum, sparse, zeckendorf}
 use Rattle.word.specs.Fill.{fillFrom, fill, readFrom, read, capacity, put, clear, kept}
-use Rattle.word.specs.Answer.{result, decodeAnswer, ifLegal}
+use Rattle.word.specs.Answer.{result, decodeAnswer}
 use Rattle.word.specs.Claims.{Legal, OneLegalWord, FillIsMost, CapacityBounds, SecondBitsKept, WellFormedWords}
 use Rattle.word.proofs.Tests.{holds, is-true}
 use Rattle.word.proofs.Weights.{weight-47}
 use Rattle.word.proofs.Sums.{length-zeckendorf, sum-zeckendorf, sparse-zeckendorf, zeckendorf-sum, word-lt, legal-parts, legal-from}
 use Rattle.word.proofs.Filling.{length-fill, kept-fill, fill-apart, fill-most, kept-trans, capacity-le, capacity-ge}
-use Rattle.word.proofs.SecondBits.{read-put, fit-pad, put-put, put-read, clear-sparse, kept-clear}
-use Rattle.word.proofs.Answers.{Taken, taken, given, word-taken}
+use Rattle.word.proofs.SecondBits.{read-put, fit-pad, put-put, put-read, clear-sparse, length-read-clear, kept-clear}
+use Rattle.word.proofs.Answers.{taken, given, word-taken}
 use Rattle.word.proofs.Formed.{comes-from}
 
 -- ---- one legal word
@@ -121,5 +121,6 @@ pub well-formed-words : WellFormedWords
 unfolding clear put read
 well-formed-words = record {
   comes-from = comes-from;
+  same-count = λ w. length-read-clear false w;
   put-again = λ w. put-put false w _ (read w) ∙ put-read false w;
 }

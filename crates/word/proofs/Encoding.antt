@@ -8,7 +8,7 @@ use native.Mathlib.Omega.{arith}
 use borrow.Author.Tests.{le-leb, lt-leb, ltb-true, ltb-false, lt-ltb, le-ltb}
 use lib.Bits.{bitOr, or-shifted}
 use lib.Count.{leadingZeros, leading-top}
-use lib.Dec.{leb, ltb, T, leb→le, ltb→lt}
+use lib.Dec.{leb, ltb, leb→le, ltb→lt}
 use lib.Pow.{pow-add}
 use mir.Facts.{and-yes}
 use Rattle.cells.specs.Cells.{number}

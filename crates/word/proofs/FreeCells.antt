@@ -6,7 +6,7 @@ use mathlib.Core.Logic.{⊎-elim}
 use Prim.Native.Nat.{ℕ, zero, suc, _+_, _*_, _/_, _^_, _≤_, _<_}
 use native.Mathlib.Omega.{arith}
 use borrow.Author.Tests.{ltb-true, ltb-false, eqb-true, eq-eqb}
-use lib.Bits.{bitAnd, bitOr, bitXor, or-lt, xor-lt, and-le-r, or-zero-r}
+use lib.Bits.{bitAnd, bitOr, or-lt, xor-lt, and-le-r, or-zero-r}
 use lib.Dec.{eqb, ltb}
 use lib.ListN.{length}
 use Rattle.cells.specs.Cells.{first, rest, number, bit, cells}

@@ -46,8 +46,9 @@ pub record SecondBitsKept : Type 0 where
   pub keeps-first : (w bits : List Bool) → T (sparse w) → T (kept w (put (fill w) bits))
   pub cleared : (w bits : List Bool) → T (sparse w) → clear (put (fill w) bits) ≡ fill w
 
--- A word is well formed exactly when some legal word's fill is its cleared form; and it is that filled word with the bits that are read
--- from it put in.
+-- A word is well formed exactly when some legal word's fill is its cleared form. Any word has as many data cells as its cleared form, and
+-- is that form with the bits that are read from it put in.
 pub record WellFormedWords : Type 0 where
   pub comes-from : (w : List Bool) → length w ≡ 46 → T (wellFormed w) ↔ ((u : List Bool) × Legal u × (clear w ≡ fill u))
+  pub same-count : (w : List Bool) → length (read (clear w)) ≡ length (read w)
   pub put-again : (w : List Bool) → put (clear w) (read w) ≡ w

@@ -1,22 +1,30 @@
 // The separators of a word of 46 cells: those it has, those that the fill adds, and whether the fill could add one.
 ghost use mathlib.Core.Path.{_≡_};
-ghost use Prim.Native.Nat.{_^_, _<_};
+ghost use Prim.Native.Nat.{_/_, _^_, _<_};
 ghost use Rattle.cells.specs.Cells.{number, cells};
 ghost use Rattle.word.specs.Fill.{fill, clear, full};
 ghost use Rattle.word.specs.Bitwise.{free};
 
-// The word with its data cells put to 0: every second cell of each run of set cells, from the run's first on. A run passes a cell on
-// by d places; each turn doubles d.
+// A word with each cell moved d places on, away from cell 0.
+fn moved_on(word: u64, d: u64) -> u64
+    requires { ⌜ d < 64 ⌝ }
+    ensures { λ r. ⌜ r ≡ word / 2 ^ d ⌝ }
+{
+    word >> d
+}
+
+// The word with its data cells put to 0: of each run of set cells every second, from the run's first on. `set` is what is known to stay;
+// `pass` marks the cells whose run reaches d cells back, so that they stay where the cell d before does. Each turn doubles d.
 pub fn separators_of(word: u64) -> u64
     requires { ⌜ word < 2 ^ 46 ⌝ }
     ensures { λ r. ⌜ r ≡ number (clear (cells 46 word)) ⌝ }
 {
-    let mut pass = word & (word / 2);
+    let mut pass = word & moved_on(word, 1);
     let mut set = word ^ pass;
     let mut d: u64 = 2;
     while d < 64 {
-        set |= pass & (set >> d);
-        pass &= pass >> d;
+        set |= pass & moved_on(set, d);
+        pass &= moved_on(pass, d);
         d *= 2;
     }
     set

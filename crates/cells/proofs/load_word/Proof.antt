@@ -1,10 +1,8 @@
 -- `cells::load_word` meets its contract. Assumes nothing.
-use mathlib.Core.Path.{_≡_, refl, sym, ap, _∙_}
-use Prim.Native.Nat.{ℕ, _≤_, _+_, _*_, _-_, _/_, _%_, _^_}
+use mathlib.Core.Path.{sym, ap, _∙_}
+use Prim.Native.Nat.{ℕ, _+_, _*_, _-_, _/_, _%_, _^_}
 use native.Mathlib.Omega.{arith}
 use borrow.Author.Needs.{needs}
-use Rattle.cells.specs.Cells.{number}
-use Rattle.cells.specs.Bytes.{bits}
 use Rattle.cells.proofs.SevenBytes.{word-window, place, within}
 use Rattle.cells.proofs.load_word.Statement.{statement}
 use Rattle.cells.proofs.load_word.Tie as tie

@@ -1,10 +1,10 @@
 -- `cells::put_window` meets its contract: after j turns the first j bytes of v are in. Assumes nothing.
 use mathlib.Core.Path.{_≡_, refl, sym, ap, ap₂, _∙_}
 use mathlib.Core.List.{List}
-use Prim.Native.Nat.{ℕ, _≤_, _<_, _+_, _*_, _-_, _^_, _/_, _%_}
+use Prim.Native.Nat.{ℕ, _≤_, _+_, _*_, _-_, _^_, _/_, _%_}
 use native.Mathlib.Omega.{arith}
 use native.Mathlib.Numerals.{add-one}
-use lib.ListN.{length, take, drop, getD, set, length-set}
+use lib.ListN.{length, getD, set, length-set}
 use lib.Seq.{paste, paste-zero, paste-suc}
 use Rattle.cells.specs.Cells.{cells}
 use Rattle.cells.specs.Bytes.{bytes}

@@ -1,12 +1,10 @@
 -- `cells::store_word` meets its contract. Assumes nothing.
-use mathlib.Core.Path.{_≡_, ap, _∙_, subst}
-use mathlib.Core.List.{List}
-use Prim.Native.Nat.{ℕ, _+_, _-_, _*_, _/_, _%_, _^_, _<_, _≤_}
+use mathlib.Core.Path.{ap, _∙_}
+use Prim.Native.Nat.{ℕ, _+_, _-_, _*_, _/_, _%_, _^_}
 use native.Mathlib.Omega.{arith}
-use lib.ListN.{take, drop, getD}
 use lib.Seq.{paste}
-use Rattle.cells.specs.Cells.{number, cells}
-use Rattle.cells.specs.Bytes.{bits, bytes, Bytes}
+use Rattle.cells.specs.Cells.{cells}
+use Rattle.cells.specs.Bytes.{bytes, Bytes}
 use Rattle.cells.proofs.SevenBytes.{word-put, place, within′}
 use borrow.Author.Needs.{needs}
 use Rattle.cells.proofs.store_word.Statement.{statement}

@@ -1,8 +1,8 @@
 -- `cells::window` meets its contract: after j turns `v` is the number that the first j bytes write. Assumes nothing.
-use mathlib.Core.Path.{_≡_, refl, sym, ap, _∙_}
-use Prim.Native.Nat.{ℕ, _≤_, _<_, _+_, _*_, _-_, _^_}
+use mathlib.Core.Path.{_≡_, refl, ap, _∙_}
+use Prim.Native.Nat.{ℕ, _≤_, _<_, _+_, _-_, _^_}
 use native.Mathlib.Omega.{arith}
-use lib.ListN.{length, take, drop, getD}
+use lib.ListN.{take, drop, getD}
 use Rattle.cells.specs.Cells.{number}
 use Rattle.cells.specs.Bytes.{bits}
 use Rattle.cells.proofs.SevenBytes.{window-lt, window-step}

@@ -1,11 +1,9 @@
 -- `word::series::encode_with` meets its contract. The invariant: the word so far and the word of what is left make up the whole, and
 -- what is left lies below the places that are done.
 -- Assumes nothing.
-use mathlib.Core.Path.{_≡_, refl, sym, ap, _∙_}
-use Prim.Native.Nat.{ℕ, suc, _+_, _*_, _-_, _%_, _^_, _<_, _≤_}
+use mathlib.Core.Path.{_≡_}
+use Prim.Native.Nat.{suc, _+_, _*_, _-_, _%_, _^_, _<_, _≤_}
 use native.Mathlib.Omega.{arith}
-use borrow.Author.Needs.{needs}
-use lib.Count.{leadingZeros}
 use Rattle.cells.specs.Cells.{number}
 use Rattle.word.specs.Word.{zeckendorf}
 use Rattle.word.proofs.Weights.{weight-pos}
