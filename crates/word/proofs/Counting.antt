@@ -6,7 +6,7 @@ use mathlib.Core.List.{List, [], _∷_}
 use Prim.Native.Nat.{ℕ, _+_, _*_, _/_, _^_, _<_}
 use native.Mathlib.Nat.{two-pow-succ}
 use native.Mathlib.Omega.{arith}
-use lib.Count.{ones, ones-cat}
+use lib.Count.{ones, ones-cat, ones-le}
 use lib.Dec.{T}
 use lib.ListN.{length}
 use Rattle.cells.specs.Cells.{first, number, cells}
@@ -66,3 +66,7 @@ unfolding read
 count-read f h t =
     ap (λ (x : ℕ). ones (x / 2)) (sym (number-cells 46 f h)) ∙ ones-count (cells 46 f)
     ∙ sym (read-count (cells 46 f) (holds (sparse (cells 46 f)) t))
+
+-- a count of bits fits the number that it is a count of
+pub ones-fit : (x : ℕ) → x < 2 ^ 64 → ones x < 2 ^ 64
+ones-fit x h = omega (arith, ones-le 64 x h)
