@@ -13,7 +13,7 @@ use Rattle.cells.specs.Cells.{first, rest, number, bit, cells}
 use Rattle.cells.proofs.Numbers.{length-cells, number-below, number-cells, cells-of}
 use Rattle.cells.proofs.Bits.{bit-and, bit-or, bit-xor, bit-high, bit-half, bit-zero, bit-double, bit-mask, same-bits}
 use Rattle.word.specs.Fill.{fillFrom, fill, clear, kept, full}
-use Rattle.word.specs.Bitwise.{free}
+use Rattle.word.specs.Steps.{free}
 use Rattle.word.proofs.Tests.{holds, is-true, same-tests, lt-cases}
 use Rattle.word.proofs.Filling.{length-fill, kept-fill→same, kept-self}
 use Rattle.word.proofs.Clearing.{clear-lt, clear-high, clear-rule}

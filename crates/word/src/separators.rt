@@ -3,7 +3,7 @@ ghost use mathlib.Core.Path.{_≡_};
 ghost use Prim.Native.Nat.{_/_, _^_, _<_};
 ghost use Rattle.cells.specs.Cells.{number, cells};
 ghost use Rattle.word.specs.Fill.{fill, clear, full};
-ghost use Rattle.word.specs.Bitwise.{free};
+ghost use Rattle.word.specs.Steps.{free};
 
 // A word with each cell moved d places on, away from cell 0.
 fn moved_on(word: u64, d: u64) -> u64

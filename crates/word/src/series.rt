@@ -1,12 +1,11 @@
 // The weights, the word of a value and the value of a word by them, and whether a word is legal.
 ghost use mathlib.Core.Path.{_≡_};
-ghost use mathlib.Core.Bool.{true, not, cond};
-ghost use Prim.Native.Nat.{suc, _-_, _^_, _<_};
-ghost use lib.Dec.{ltb};
+ghost use mathlib.Core.Bool.{true, not};
+ghost use Prim.Native.Nat.{suc, _^_, _≤_, _<_};
 ghost use Rattle.cells.specs.Cells.{number, cells};
 ghost use Rattle.word.specs.Word.{weight, sum, sparse, legalWord, zeckendorf};
 ghost use Rattle.word.specs.Weights.{weights};
-ghost use Rattle.word.specs.Bitwise.{near};
+ghost use Rattle.word.specs.Steps.{Largest};
 
 // The 46 weights, weight number 1 first. An operation takes the table once and hands it down.
 pub const WEIGHTS: [u32; 46] = [
@@ -66,35 +65,28 @@ fn weight_in(table: &[u32; 46], n: usize) -> u32
     table[n]
 }
 
-// The place of the largest weight that goes into a value whose highest binary digit is worth 2 to the top, or up to two places above.
-fn guess(top: u32) -> usize
-    requires { ⌜ top < 32 ⌝ }
-    ensures { λ r. ⌜ near top r ≡ true ⌝ }
+// The place of the largest weight that goes into what is left, where weight number n does not. The places are tried downward.
+fn largest_place(table: &[u32; 46], n: usize, rest: u32) -> usize
+    requires { ⌜ (now table ≡ weights) × (n ≤ 47) × (0 < rest) × (rest < weight n) ⌝ }
+    ensures { λ r. ⌜ Largest n rest r ⌝ }
 {
-    (top as usize + 1) * 366 / 256
+    let mut place = n - 2;
+    while rest < weight_in(table, place) {
+        place -= 1;
+    }
+    place
 }
 
-// One place lower where the weight is more than what is left.
-fn lowered(table: &[u32; 46], n: usize, rest: u32) -> usize
-    requires { ⌜ (now table ≡ weights) × (n < 46) × (0 < rest) ⌝ }
-    ensures { λ r. ⌜ r ≡ cond (ltb rest (weight (suc n))) (n - 1) n ⌝ }
-{
-    if rest < weight_in(table, n) { n - 1 } else { n }
-}
-
-// The legal word of a value: a turn for each set cell, cell 0 first.
+// The legal word of a value: a turn for each set cell, the largest weight first. What is left is below weight number n.
 pub fn encode_with(table: &[u32; 46], value: u32) -> u64
     requires { ⌜ now table ≡ weights ⌝ }
     ensures { λ r. ⌜ r ≡ number (zeckendorf 46 value) ⌝ }
 {
     let mut rest = value;
     let mut word: u64 = 0;
+    let mut n: usize = 47;
     while rest != 0 {
-        let n = lowered(
-            table,
-            lowered(table, guess(31 - u32::leading_zeros(rest)), rest),
-            rest,
-        );
+        n = largest_place(table, n, rest);
         rest -= weight_in(table, n);
         word |= 1 << n;
     }

@@ -2,7 +2,7 @@
 -- Assumes nothing.
 use mathlib.Core.Path.{refl}
 use borrow.Author.Needs.{needs}
-use Rattle.word.specs.Bitwise.{free}
+use Rattle.word.specs.Steps.{free}
 use Rattle.word.proofs.separators.free_cells.Statement.{statement}
 use Rattle.word.proofs.separators.free_cells.Tie as tie
 
