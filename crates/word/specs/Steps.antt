@@ -4,9 +4,8 @@ use Prim.Native.Nat.{ℕ, suc, _*_, _/_, _≤_, _<_}
 use lib.Bits.{bitAnd, bitOr, bitXor}
 use Rattle.word.specs.Word.{weight}
 
--- below weight number n, weight number r + 1 is the largest that goes into x
-pub record Largest (n x r : ℕ) : Type 0 where
-  pub place : suc r < n
+-- weight number r + 1 is the largest that goes into x
+pub record Largest (x r : ℕ) : Type 0 where
   pub goes : weight (suc r) ≤ x
   pub next : x < weight (suc (suc r))
 

@@ -1,7 +1,8 @@
 // The weights, the word of a value and the value of a word by them, and whether a word is legal.
 ghost use mathlib.Core.Path.{_≡_};
-ghost use mathlib.Core.Bool.{true, not};
-ghost use Prim.Native.Nat.{suc, _^_, _≤_, _<_};
+ghost use mathlib.Core.Bool.{true, cond, not};
+ghost use Prim.Native.Nat.{suc, _^_, _<_};
+ghost use lib.Dec.{ltb};
 ghost use Rattle.cells.specs.Cells.{number, cells};
 ghost use Rattle.word.specs.Word.{weight, sum, sparse, legalWord, zeckendorf};
 ghost use Rattle.word.specs.Weights.{weights};
@@ -65,28 +66,33 @@ fn weight_in(table: &[u32; 46], n: usize) -> u32
     table[n]
 }
 
-// The place of the largest weight that goes into what is left, where weight number n does not. The places are tried downward.
-fn largest_place(table: &[u32; 46], n: usize, rest: u32) -> usize
-    requires { ⌜ (now table ≡ weights) × (n ≤ 47) × (0 < rest) × (rest < weight n) ⌝ }
-    ensures { λ r. ⌜ Largest n rest r ⌝ }
+// 1 where weight number n + 1 is more than what is left, else 0.
+fn beyond(table: &[u32; 46], n: usize, rest: u32) -> usize
+    requires { ⌜ (now table ≡ weights) × (n < 46) ⌝ }
+    ensures { λ r. ⌜ r ≡ cond (ltb rest (weight (suc n))) 1 0 ⌝ }
 {
-    let mut place = n - 2;
-    while rest < weight_in(table, place) {
-        place -= 1;
-    }
-    place
+    if rest < weight_in(table, n) { 1 } else { 0 }
 }
 
-// The legal word of a value: a turn for each set cell, the largest weight first. What is left is below weight number n.
+// The place of the largest weight that goes into what is left. A number of d binary digits has it at place d * 366 / 256 or at one of the
+// two below: a digit is a factor of 2, which is the golden ratio, by which the weights grow, to the power 1.44.
+fn largest_place(table: &[u32; 46], rest: u32) -> usize
+    requires { ⌜ (now table ≡ weights) × (0 < rest) ⌝ }
+    ensures { λ r. ⌜ Largest rest r ⌝ }
+{
+    let top = (32 - u32::leading_zeros(rest)) as usize * 366 / 256;
+    top - (beyond(table, top, rest) + beyond(table, top - 1, rest))
+}
+
+// The legal word of a value: a turn for each set cell, the largest weight first.
 pub fn encode_with(table: &[u32; 46], value: u32) -> u64
     requires { ⌜ now table ≡ weights ⌝ }
     ensures { λ r. ⌜ r ≡ number (zeckendorf 46 value) ⌝ }
 {
     let mut rest = value;
     let mut word: u64 = 0;
-    let mut n: usize = 47;
     while rest != 0 {
-        n = largest_place(table, n, rest);
+        let n = largest_place(table, rest);
         rest -= weight_in(table, n);
         word |= 1 << n;
     }
