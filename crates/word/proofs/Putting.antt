@@ -5,19 +5,18 @@ use mathlib.Core.Path.{_≡_, refl, sym, _∙_, ap}
 use mathlib.Core.Bool.{Bool, true, false, cond}
 use mathlib.Core.List.{List, [], _∷_}
 use Prim.Native.Nat.{ℕ, zero, suc, _+_, _-_, _*_, _/_, _%_, _^_, _≤_, _<_}
-use native.Mathlib.Nat.{suc-add, zero-add, le-add-left}
 use native.Mathlib.Omega.{arith}
 use lib.Count.{ones, ones-cat}
 use lib.Dec.{T}
 use lib.ListN.{length}
 use lib.Pow.{shl-exact}
 use Rattle.cells.specs.Cells.{first, rest, number, bit, cells}
-use Rattle.cells.proofs.Numbers.{digit-bit, digit-times, length-cells, number-below, number-cells, cells-low}
+use Rattle.cells.proofs.Numbers.{digit-bit, digit-times, length-cells, number-below, number-cells}
 use Rattle.cells.proofs.Bits.{bit-half, bit-high}
 use Rattle.word.specs.Word.{sparse}
 use Rattle.word.specs.Fill.{read, putFrom, put}
 use Rattle.word.proofs.Tests.{holds}
-use Rattle.word.proofs.SetCells.{Top, top-bit, top-rest}
+use Rattle.word.proofs.SetCells.{Top, top-rest, zeros-before, from-top}
 use Rattle.word.proofs.SecondBits.{length-put}
 use Rattle.word.proofs.Counting.{count-read}
 
@@ -60,36 +59,22 @@ put-lay n f bs h t =
 
 -- ---- the first set cell
 
--- cells above the first set cell take no bit
-lay-above : (k n m : ℕ) (bs : List Bool) → m < 2 ^ n → lay (cells (k + n) m) bs ≡ lay (cells n m) bs
-unfolding lay cells
-lay-above zero n m bs h = rw (zero-add n)
-lay-above (suc k) n m bs h = rw (suc-add k n, bit-high m n (k + n) h (le-add-left n k)) (lay-above k n m bs h)
-
 lay-low : (n m : ℕ) (bs : List Bool) → n ≤ 46 → m < 2 ^ n → lay (cells 46 m) bs ≡ lay (cells n m) bs
-lay-low n m bs l h =
-    let e : (46 - n) + n ≡ 46 = omega arith in
-    rw e at (lay-above (46 - n) n m bs h)
+unfolding lay
+lay-low n m bs l h = zeros-before (λ (cs : List Bool). lay cs bs) (λ cs. refl) n m l h
 
 lay-none : (bs : List Bool) → lay (cells 46 0) bs ≡ 0
 unfolding lay cells
 lay-none bs = lay-low 0 0 bs (omega arith) (omega arith)
 
-lay-split : (j r : ℕ) (b : Bool) (bs : List Bool) → r < 2 ^ j
-    → lay (cells (suc j) (1 * 2 ^ j + r)) (b ∷ bs) ≡ cond b (2 ^ j) 0 + lay (cells j r) bs
-unfolding lay cells first rest
-lay-split j r b bs h = rw (top-bit j r h, length-cells j (1 * 2 ^ j + r), cells-low j 1 r)
-
 lay-top : (m z : ℕ) (b : Bool) (bs : List Bool) → Top m z
     → lay (cells 46 m) (b ∷ bs) ≡ cond b (2 ^ (63 - z)) 0 + lay (cells 46 (m - 2 ^ (63 - z))) bs
+unfolding lay first rest
 lay-top m z b bs t =
     let j : ℕ = 63 - z in
     let r : ℕ = m - 2 ^ j in
-    let s = top-rest m z t in
-    lay-low (suc j) m (b ∷ bs) (t .small) (t .below)
-    ∙ ap (λ (y : ℕ). lay (cells (suc j) y) (b ∷ bs)) (s .0)
-    ∙ lay-split j r b bs (s .1)
-    ∙ ap (λ (y : ℕ). cond b (2 ^ j) 0 + y) (sym (lay-low j r bs (omega (arith, t .small)) (s .1)))
+    from-top (λ (cs : List Bool). lay cs (b ∷ bs)) (λ cs. refl) m z t
+    ∙ rw (length-cells j r, lay-low j r bs (omega (arith, t .small)) (top-rest m z t .1))
 
 pub ones-top : (m z : ℕ) → Top m z → ones m ≡ suc (ones (m - 2 ^ (63 - z)))
 unfolding ones

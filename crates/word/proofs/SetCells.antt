@@ -1,14 +1,17 @@
--- The first and the last set cell of a number, as a count of zeros tells them.
+-- The first and the last set cell of a number, as a count of zeros tells them, and the cells from the first set one on.
 -- Assumes nothing.
 use mathlib.Core.Path.{_≡_, refl, _∙_, ap}
-use mathlib.Core.Bool.{true}
+use mathlib.Core.Bool.{Bool, true, false}
+use mathlib.Core.List.{List, _∷_}
 use Prim.Native.Nat.{ℕ, zero, suc, _+_, _-_, _*_, _/_, _%_, _^_, _≤_, _<_}
-use native.Mathlib.Nat.{two-pow-succ, pow-suc, mul-assoc, mod-self, lt-of-not-le, not-le-of-lt, mod-eq-of-lt}
+use native.Mathlib.Nat.{zero-add, suc-add, le-add-left, two-pow-succ, pow-suc, mul-assoc, mod-self, lt-of-not-le, not-le-of-lt, mod-eq-of-lt}
 use native.Mathlib.Omega.{arith}
 use lib.Bits.{bitAnd, and-block, and-self, and-mask}
 use lib.Count.{leadingZeros, leading-top, trailingZeros, under}
 use lib.Pow.{pow-mono, pow-pos, high}
-use Rattle.cells.specs.Cells.{bit}
+use Rattle.cells.specs.Cells.{bit, cells}
+use Rattle.cells.proofs.Numbers.{cells-low}
+use Rattle.cells.proofs.Bits.{bit-high}
 
 pub below-46 : (j x : ℕ) → 2 ^ j ≤ x → x < 2 ^ 46 → j < 46
 below-46 j x a b = lt-of-not-le (λ g. not-le-of-lt b (omega (arith, pow-mono g)))
@@ -49,6 +52,30 @@ top-bit j r h = rw (high 1 j h)
 -- a number is its first set cell and a rest below it
 pub top-rest : (m z : ℕ) → Top m z → (m ≡ 1 * 2 ^ (63 - z) + (m - 2 ^ (63 - z))) × (m - 2 ^ (63 - z) < 2 ^ (63 - z))
 top-rest m z t = (omega arith, omega (arith, two-pow-succ (63 - z)))
+
+-- ---- functions of cells that zeros in front do not change
+
+module _ {A : Type 0} (F : List Bool → A) (skip : (cs : List Bool) → F (false ∷ cs) ≡ F cs) where
+  pub zeros-above : (k n x : ℕ) → x < 2 ^ n → F (cells (k + n) x) ≡ F (cells n x)
+  unfolding cells
+  zeros-above zero n x h = rw (zero-add n)
+  zeros-above (suc k) n x h =
+      rw (suc-add k n, bit-high x n (k + n) h (le-add-left n k)) (skip (cells (k + n) x) ∙ zeros-above k n x h)
+
+  pub zeros-before : (n x : ℕ) → n ≤ 46 → x < 2 ^ n → F (cells 46 x) ≡ F (cells n x)
+  zeros-before n x l h =
+      let e : (46 - n) + n ≡ 46 = omega arith in
+      rw e at (zeros-above (46 - n) n x h)
+
+  -- from the first set cell on
+  pub from-top : (m z : ℕ) → Top m z → F (cells 46 m) ≡ F (true ∷ cells (63 - z) (m - 2 ^ (63 - z)))
+  from-top m z t =
+      let j : ℕ = 63 - z in
+      let s = top-rest m z t in
+      zeros-before (suc j) m (t .small) (t .below) ∙ ap (λ (y : ℕ). F (cells (suc j) y)) (s .0) ∙ ap F (split j (m - 2 ^ j) (s .1))
+    where
+      split : (j r : ℕ) → r < 2 ^ j → cells (suc j) (1 * 2 ^ j + r) ≡ true ∷ cells j r
+      split j r h = unfold cells in rw (top-bit j r h, cells-low j 1 r)
 
 -- ---- the last set cell
 

@@ -3,25 +3,23 @@
 use mathlib.Core.Path.{_≡_, refl, sym, _∙_, ap}
 use mathlib.Core.Bool.{true}
 use Prim.Native.Nat.{ℕ, zero, suc, _+_, _-_, _*_, _%_, _^_, _≤_, _<_}
-use native.Mathlib.Nat.{suc-add, zero-add, add-zero, le-add-left, mod-eq-of-lt}
+use native.Mathlib.Nat.{suc-add, zero-add, add-zero, mod-eq-of-lt}
 use native.Mathlib.Omega.{arith}
 use lib.Bits.{bitAnd}
 use lib.Dec.{T}
 use lib.Pow.{pow-pos}
 use Rattle.cells.specs.Cells.{bit, cells}
 use Rattle.cells.proofs.Numbers.{length-cells, cells-low, cells-mod}
-use Rattle.cells.proofs.Bits.{bit-high, bit-above}
+use Rattle.cells.proofs.Bits.{bit-above}
 use Rattle.word.specs.Word.{weight, sum, sparse}
 use Rattle.word.proofs.Tests.{holds}
 use Rattle.word.proofs.Weights.{weight-46}
 use Rattle.word.proofs.Sums.{sparse-rest, sum-lt, sum-cells}
-use Rattle.word.proofs.SetCells.{power-lt, top-bit, Low, low-small, without-last}
+use Rattle.word.proofs.SetCells.{power-lt, top-bit, zeros-above, Low, low-small, without-last}
 
--- zeros above the n low cells add nothing
 sum-above : (k n x : ℕ) → x < 2 ^ n → sum (cells (k + n) x) ≡ sum (cells n x)
-sum-above zero n x h = rw (zero-add n)
-sum-above (suc k) n x h =
-    rw (suc-add k n) (sum-cells (k + n) x ∙ rw (bit-high x n (k + n) h (le-add-left n k)) (omega (arith, sum-above k n x h)))
+unfolding sum
+sum-above k n x h = zeros-above sum (λ cs. omega arith) k n x h
 
 empty : (x : ℕ) → sum (cells 0 x) ≡ 0
 unfolding sum cells
