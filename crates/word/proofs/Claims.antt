@@ -3,13 +3,14 @@
 use mathlib.Core.Bool.{Bool, false, not}
 use mathlib.Core.List.{List}
 use mathlib.Core.Path.{_≡_, refl, sym, ap, _∙_}
-use Prim.Native.Nat.{ℕ, _≤_}
+use Prim.Native.Nat.{ℕ, _^_, _≤_}
 use native.Mathlib.Omega.{arith}
+use borrow.Author.Tests.{lt-ltb}
 use lib.Dec.{T}
 use lib.ListN.{length}
 use Rattle.cells.specs.Cells.{first, number, cells}
-use Rattle.cells.proofs.Numbers.{length-cells, number-cells, cells-of}
-use Rattle.word.specs.Word.{seriesFrom, weight, sum, sparse, zeckendorf}
+use Rattle.cells.proofs.Numbers.{length-cells, number-cells, number-below, cells-of}
+use Rattle.word.specs.Word.{seriesFrom, weight, sum, sparse, legal, legalWord, zeckendorf}
 use Rattle.word.specs.Fill.{fillFrom, fill, readFrom, read, capacity, put, clear, kept}
 use Rattle.word.specs.Answer.{result, decodeAnswer}
 use Rattle.word.specs.Claims.{Legal, OneLegalWord, FillIsMost, CapacityBounds, SecondBitsKept, WellFormedWords}
@@ -36,6 +37,10 @@ legal-word x h =
 only-word : (w : List Bool) → Legal w → w ≡ zeckendorf 46 (sum w)
 only-word w h = sym (rw (h .0) at (zeckendorf-sum w (legal-parts w (h .1) .0)))
 
+as-number : (w : List Bool) → length w ≡ 46 → legalWord (number w) ≡ legal w
+unfolding legalWord
+as-number w e = rw (lt-ltb (number w) (2 ^ 46) (number-below 46 w e), cells-of 46 w e)
+
 cells-word : (x : ℕ) → cells 46 (number (zeckendorf 46 x)) ≡ zeckendorf 46 x
 cells-word x = cells-of 46 (zeckendorf 46 x) (length-zeckendorf 46 x)
 
@@ -58,6 +63,7 @@ pub one-legal-word : OneLegalWord
 one-legal-word = record {
   some = λ x h. (legal-word x h, sum-of-word x h);
   only = only-word;
+  as-number = as-number;
   decode-encode = decode-encode;
   encode-decode = encode-decode;
 }

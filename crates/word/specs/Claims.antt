@@ -9,7 +9,7 @@ use Prim.Native.Nat.{ℕ, _-_, _≤_}
 use lib.Dec.{T}
 use lib.ListN.{length, replicate}
 use Rattle.cells.specs.Cells.{number}
-use Rattle.word.specs.Word.{sum, sparse, legal, zeckendorf}
+use Rattle.word.specs.Word.{sum, sparse, legal, legalWord, zeckendorf}
 use Rattle.word.specs.Fill.{fill, read, capacity, put, clear, kept, wellFormed}
 use Rattle.word.specs.Answer.{result, encodeAnswer, decodeAnswer}
 
@@ -17,10 +17,12 @@ use Rattle.word.specs.Answer.{result, encodeAnswer, decodeAnswer}
 abbrev pub Legal : List Bool → Type 0
 Legal w = (length w ≡ 46) × T (legal w)
 
--- Every 32-bit value has exactly one legal word, and encode and decode are inverse on them.
+-- Every 32-bit value has exactly one legal word, and encode and decode are inverse on them. A word held as a number is legal exactly
+-- where its cells are.
 pub record OneLegalWord : Type 0 where
   pub some : (x : ℕ) → x ≤ 4294967295 → Legal (zeckendorf 46 x) × (sum (zeckendorf 46 x) ≡ x)
   pub only : (w : List Bool) → Legal w → w ≡ zeckendorf 46 (sum w)
+  pub as-number : (w : List Bool) → length w ≡ 46 → legalWord (number w) ≡ legal w
   pub decode-encode : (x : ℕ) → x ≤ 4294967295 → decodeAnswer (number (zeckendorf 46 x)) ≡ result x
   pub encode-decode : (w x : ℕ) → decodeAnswer w ≡ result x → (x ≤ 4294967295) × (encodeAnswer x ≡ result w)
 
