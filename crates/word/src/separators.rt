@@ -33,7 +33,7 @@ pub fn separators_of(word: u64) -> u64
 // The cells that are 0 and have no set neighbour.
 fn free_cells(word: u64) -> u64
     requires { ⌜ word < 2 ^ 46 ⌝ }
-    ensures { λ r. ⌜ r ≡ free word ⌝ }
+    ensures { λ r. ⌜ r ≡ number (free (cells 46 word)) ⌝ }
 {
     let near = (word | word * 2) | word / 2;
     (near & 0x3fff_ffff_ffff) ^ 0x3fff_ffff_ffff
