@@ -5,10 +5,13 @@ use mathlib.Core.Bool.{Bool, true, false, cond, not}
 use Prim.Native.Nat.{ℕ, _^_, _≤_, _<_}
 use native.Mathlib.Omega.{arith}
 use borrow.Author.Tests.{leb-false, ltb-false, not-false, le-leb, lt-leb, lt-ltb, le-ltb}
-use lib.Dec.{leb, ltb}
+use lib.Dec.{T, leb, ltb, lt→ltb, ltb→lt}
+use mir.Facts.{and-yes, yes-and}
 use Rattle.cells.specs.Cells.{cells}
-use Rattle.word.specs.Word.{sum, sparse}
+use Rattle.word.specs.Word.{sum, sparse, legal, legalWord}
 use Rattle.word.specs.Answer.{Answer, result, refusal, ifLegal}
+use Rattle.word.proofs.Tests.{holds, is-true}
+use Rattle.word.proofs.Sums.{legal-parts, legal-from}
 
 -- ---- the tests in their order
 
@@ -74,3 +77,18 @@ given w x v e = taken-tests w x v e .3
 
 pub still-taken : (w y : ℕ) → Taken w → ifLegal w y ≡ result y
 still-taken w y t = word-taken w y (t .small) (ap not (t .apart)) (t .total)
+
+-- ---- what is not refused is legal
+
+pub taken-legal : (w : ℕ) → Taken w → T (legalWord w)
+unfolding legalWord
+taken-legal w t =
+    yes-and (ltb w (2 ^ 46)) (legal (cells 46 w)) (lt→ltb w (2 ^ 46) (t .small))
+    (legal-from (cells 46 w) (holds (sparse (cells 46 w)) (t .apart)) (t .total))
+
+pub legal-taken : (w : ℕ) → T (legalWord w) → Taken w
+unfolding legalWord
+legal-taken w h =
+    let p = and-yes (ltb w (2 ^ 46)) (legal (cells 46 w)) h in
+    let q = legal-parts (cells 46 w) (p .1) in
+    record { small = ltb→lt w (2 ^ 46) (p .0); apart = is-true (sparse (cells 46 w)) (q .0); total = q .1 }

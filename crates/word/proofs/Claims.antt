@@ -11,15 +11,17 @@ use lib.ListN.{length}
 use Rattle.cells.specs.Cells.{first, number, cells}
 use Rattle.cells.proofs.Numbers.{length-cells, number-cells, number-below, cells-of}
 use Rattle.word.specs.Word.{seriesFrom, weight, sum, sparse, legal, legalWord, zeckendorf}
-use Rattle.word.specs.Fill.{fillFrom, fill, readFrom, read, capacity, put, clear, kept}
+use Rattle.word.specs.Fill.{fillFrom, fill, readFrom, read, capacity, setBeforeLast, put, clear, kept}
+use Rattle.word.specs.Weights.{weights}
 use Rattle.word.specs.Answer.{result, decodeAnswer}
-use Rattle.word.specs.Claims.{Legal, OneLegalWord, FillIsMost, CapacityBounds, SecondBitsKept, WellFormedWords}
+use Rattle.word.specs.Claims.{Legal, OneLegalWord, LegalAccepted, TableIsSeries, FillLeavesNoRoom, CapacityBounds, SecondBitsKept, WellFormedWords}
 use Rattle.word.proofs.Tests.{holds, is-true}
-use Rattle.word.proofs.Weights.{weight-47}
+use Rattle.word.proofs.Weights.{weight-47, weights-next}
 use Rattle.word.proofs.Sums.{length-zeckendorf, sum-zeckendorf, sparse-zeckendorf, zeckendorf-sum, word-lt, legal-parts, legal-from}
 use Rattle.word.proofs.Filling.{length-fill, kept-fill, fill-apart, fill-most, kept-trans, capacity-le, capacity-ge}
-use Rattle.word.proofs.SecondBits.{read-put, fit-pad, put-put, put-read, clear-sparse, length-read-clear, kept-clear}
-use Rattle.word.proofs.Answers.{taken, given, word-taken}
+use Rattle.word.proofs.SecondBits.{read-put, fit-pad, put-fit, put-put, put-read, clear-sparse, length-read-clear, kept-clear}
+use Rattle.word.proofs.Answers.{taken, given, word-taken, still-taken, taken-legal, legal-taken}
+use Rattle.word.proofs.Counting.{read-count}
 use Rattle.word.proofs.Formed.{comes-from}
 
 -- ---- one legal word
@@ -68,6 +70,22 @@ one-legal-word = record {
   encode-decode = encode-decode;
 }
 
+-- ---- exactly the legal words
+
+pub legal-accepted : LegalAccepted
+legal-accepted = record {
+  exactly = λ w y x. (
+    λ e. (taken-legal w (taken w y x (sym e)), given w y x (sym e)),
+    λ h. still-taken w y (legal-taken w (h .0)) ∙ ap result (sym (h .1)),
+  );
+}
+
+-- ---- the table
+
+pub table-is-series : TableIsSeries
+unfolding weights
+table-is-series = record { entries = refl; one = refl; two = refl; next = weights-next; last = refl }
+
 -- ---- the fill
 
 fill-kept : (w : List Bool) → T (kept w (fill w))
@@ -78,8 +96,8 @@ only-fill : (w v : List Bool) → length v ≡ length w → T (kept (fill w) v) 
 unfolding fill sparse first
 only-fill w v e k s = fill-most false w v e k s
 
-pub fill-is-most : FillIsMost
-fill-is-most = record { keeps = fill-kept; apart = fill-apart; most = only-fill }
+pub fill-leaves-no-room : FillLeavesNoRoom
+fill-leaves-no-room = record { keeps = fill-kept; apart = fill-apart; most = only-fill }
 
 -- ---- capacity
 
@@ -87,6 +105,10 @@ bounds : (w : List Bool) → Legal w → (15 ≤ capacity w) × (capacity w ≤ 
 unfolding capacity read fill sparse first
 bounds w h =
     omega (arith, h .0, capacity-ge false w (legal-parts w (h .1) .0), capacity-le false (fill w), length-fill false w)
+
+counts : (w : List Bool) → T (sparse w) → capacity w ≡ setBeforeLast (fill w)
+unfolding capacity read
+counts w t = read-count (fill w) (fill-apart w t)
 
 at-least : capacity (zeckendorf 46 3889371024) ≡ 15
 unfolding capacity read readFrom fill fillFrom zeckendorf weight seriesFrom first
@@ -98,6 +120,7 @@ at-most = refl
 
 pub capacity-bounds : CapacityBounds
 capacity-bounds = record {
+  counts = counts;
   least = λ w h. bounds w h .0;
   greatest = λ w h. bounds w h .1;
   least-met = (zeckendorf 46 3889371024, legal-word 3889371024 (omega arith), at-least);
@@ -117,7 +140,9 @@ put-kept w bits t = rw (clear-filled w t) at (kept-clear false (fill w) bits)
 pub second-bits-kept : SecondBitsKept
 unfolding capacity read clear put
 second-bits-kept = record {
-  read-back = λ w bits h. read-put false (fill w) bits ∙ fit-pad (capacity w) bits h;
+  read-back = λ w bits. read-put false (fill w) bits;
+  read-all = λ w bits h. read-put false (fill w) bits ∙ fit-pad (capacity w) bits h;
+  not-beyond = λ w bits. put-fit false w bits;
   keeps-filled = put-kept;
   keeps-first = λ w bits t. kept-trans w (fill w) (put (fill w) bits) (fill-kept w) (put-kept w bits t);
   cleared = λ w bits t. put-put false (fill w) bits _ ∙ clear-filled w t;

@@ -5,13 +5,14 @@ use mathlib.Core.Bool.{Bool, false}
 use mathlib.Core.List.{List, _++_}
 use mathlib.Core.Logic.{_↔_}
 use mathlib.Core.Path.{_≡_}
-use Prim.Native.Nat.{ℕ, _-_, _≤_}
+use Prim.Native.Nat.{ℕ, suc, _+_, _-_, _≤_, _<_}
 use lib.Dec.{T}
-use lib.ListN.{length, replicate}
+use lib.ListN.{length, getD, replicate}
 use Rattle.cells.specs.Cells.{number}
 use Rattle.word.specs.Word.{sum, sparse, legal, legalWord, zeckendorf}
-use Rattle.word.specs.Fill.{fill, read, capacity, put, clear, kept, wellFormed}
-use Rattle.word.specs.Answer.{result, encodeAnswer, decodeAnswer}
+use Rattle.word.specs.Fill.{fill, read, capacity, setBeforeLast, fit, put, clear, kept, wellFormed}
+use Rattle.word.specs.Weights.{weights}
+use Rattle.word.specs.Answer.{result, ifLegal, encodeAnswer, decodeAnswer}
 
 -- a legal first-round word
 abbrev pub Legal : List Bool → Type 0
@@ -26,24 +27,40 @@ pub record OneLegalWord : Type 0 where
   pub decode-encode : (x : ℕ) → x ≤ 4294967295 → decodeAnswer (number (zeckendorf 46 x)) ≡ result x
   pub encode-decode : (w x : ℕ) → decodeAnswer w ≡ result x → (x ≤ 4294967295) × (encodeAnswer x ≡ result w)
 
+-- Decode, fill and measure accept exactly the legal words, of all numbers. Their answers are `ifLegal w y`, with the result y.
+pub record LegalAccepted : Type 0 where
+  pub exactly : (w y x : ℕ) → (ifLegal w y ≡ result x) ↔ (T (legalWord w) × (x ≡ y))
+
+-- The table of weights is the series: 46 entries, 1 and 2, and each later one the sum of the two before it, up to 2971215073.
+pub record TableIsSeries : Type 0 where
+  pub entries : length weights ≡ 46
+  pub one : getD weights 0 0 ≡ 1
+  pub two : getD weights 1 0 ≡ 2
+  pub next : (k : ℕ) → suc (suc k) < 46 → getD weights (suc (suc k)) 0 ≡ getD weights (suc k) 0 + getD weights k 0
+  pub last : getD weights 45 0 ≡ 2971215073
+
 -- The fill keeps set cells, sets no neighbours, and cannot set one more cell: a word without neighbours that keeps the filled word's
 -- cells is the filled word. Over any number of cells.
-pub record FillIsMost : Type 0 where
+pub record FillLeavesNoRoom : Type 0 where
   pub keeps : (w : List Bool) → T (kept w (fill w))
   pub apart : (w : List Bool) → T (sparse w) → T (sparse (fill w))
   pub most : (w v : List Bool) → length v ≡ length w → T (kept (fill w) v) → T (sparse v) → v ≡ fill w
 
--- Capacity lies between 15 and 23, and both ends are met.
+-- Capacity counts the separators but one in cell 45. It lies between 15 and 23, and both ends are met.
 pub record CapacityBounds : Type 0 where
+  pub counts : (w : List Bool) → T (sparse w) → capacity w ≡ setBeforeLast (fill w)
   pub least : (w : List Bool) → Legal w → 15 ≤ capacity w
   pub greatest : (w : List Bool) → Legal w → capacity w ≤ 23
   pub least-met : (w : List Bool) × Legal w × (capacity w ≡ 15)
   pub greatest-met : (w : List Bool) × Legal w × (capacity w ≡ 23)
 
--- Bits put into a filled word are read back, with 0 in the spare data cells; putting them clears no cell of the filled word, nor of the
--- first word; and with its data cells put to 0 the word is the filled word again. Over any number of cells.
+-- Bits put into a filled word are read back: as many as there are data cells, with 0 in the spare ones, and bits beyond them are not
+-- looked at. Putting them clears no cell of the filled word, nor of the first word, and with its data cells put to 0 the word is the
+-- filled word again. Over any number of cells.
 pub record SecondBitsKept : Type 0 where
-  pub read-back : (w bits : List Bool) → length bits ≤ capacity w → read (put (fill w) bits) ≡ bits ++ replicate (capacity w - length bits) false
+  pub read-back : (w bits : List Bool) → read (put (fill w) bits) ≡ fit (capacity w) bits
+  pub read-all : (w bits : List Bool) → length bits ≤ capacity w → read (put (fill w) bits) ≡ bits ++ replicate (capacity w - length bits) false
+  pub not-beyond : (w bits : List Bool) → put w (fit (length (read w)) bits) ≡ put w bits
   pub keeps-filled : (w bits : List Bool) → T (sparse w) → T (kept (fill w) (put (fill w) bits))
   pub keeps-first : (w bits : List Bool) → T (sparse w) → T (kept w (put (fill w) bits))
   pub cleared : (w bits : List Bool) → T (sparse w) → clear (put (fill w) bits) ≡ fill w
