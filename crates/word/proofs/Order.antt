@@ -3,14 +3,16 @@
 use mathlib.Core.Path.{_≡_, sym, _∙_, ap, refl}
 use mathlib.Core.Bool.{Bool, true, false, _&&_}
 use mathlib.Core.List.{List, [], _∷_}
+use mathlib.Core.Logic.{⊎-elim}
 use Prim.Native.Nat.{ℕ, suc, _/_, _^_, _≤_, _<_}
+use native.Mathlib.Nat.{le-of-eq, le-of-lt, eq-or-lt-of-le}
 use native.Mathlib.Omega.{arith}
 use borrow.Author.Tests.{ltb-true, lt-ltb, le-leb, lt-leb}
 use lib.Bits.{bitAnd}
 use lib.Dec.{eqb, leb, ltb, T}
 use lib.ListN.{length}
 use Rattle.cells.specs.Cells.{first, number, bit, cells}
-use Rattle.cells.proofs.Numbers.{length-cells, number-lt, number-cells}
+use Rattle.cells.proofs.Numbers.{length-cells, number-lt, number-cells, number-inj}
 use Rattle.word.specs.Word.{seriesFrom, weight, sum, sparse, legal, legalWord}
 use Rattle.word.proofs.Tests.{holds}
 use Rattle.word.proofs.Sums.{sparse-rest, sum-lt}
@@ -18,18 +20,6 @@ use Rattle.word.proofs.Neighbours.{sparse-test}
 
 suc-eq : {m n : ℕ} → suc m ≡ suc n → m ≡ n
 suc-eq h = omega arith
-
-order-le : (cs ds : List Bool) → length cs ≡ length ds → T (sparse cs) → T (sparse ds) → number cs ≤ number ds → sum cs ≤ sum ds
-unfolding number sum
-order-le [] [] e s t h = omega arith
-order-le [] (d ∷ ds) e s t h = absurd (omega arith)
-order-le (c ∷ cs) [] e s t h = absurd (omega arith)
-order-le (true ∷ cs) (true ∷ ds) e s t h =
-    let r = suc-eq e in
-    omega (arith, order-le cs ds r (sparse-rest true cs s) (sparse-rest true ds t) (omega (arith, ap (λ (m : ℕ). 2 ^ m) r)), ap (λ (m : ℕ). weight (suc m)) r)
-order-le (false ∷ cs) (false ∷ ds) e s t h = omega (arith, order-le cs ds (suc-eq e) (sparse-rest false cs s) (sparse-rest false ds t) (omega arith))
-order-le (true ∷ cs) (false ∷ ds) e s t h = absurd (omega (arith, number-lt ds, ap (λ (m : ℕ). 2 ^ m) (suc-eq e)))
-order-le (false ∷ cs) (true ∷ ds) e s t h = omega (arith, sum-lt cs (sparse-rest false cs s), ap (λ (m : ℕ). weight (suc m)) (suc-eq e))
 
 order-lt : (cs ds : List Bool) → length cs ≡ length ds → T (sparse cs) → T (sparse ds) → number cs < number ds → sum cs < sum ds
 unfolding number sum
@@ -42,6 +32,10 @@ order-lt (true ∷ cs) (true ∷ ds) e s t h =
 order-lt (false ∷ cs) (false ∷ ds) e s t h = omega (arith, order-lt cs ds (suc-eq e) (sparse-rest false cs s) (sparse-rest false ds t) (omega arith))
 order-lt (true ∷ cs) (false ∷ ds) e s t h = absurd (omega (arith, number-lt ds, ap (λ (m : ℕ). 2 ^ m) (suc-eq e)))
 order-lt (false ∷ cs) (true ∷ ds) e s t h = omega (arith, sum-lt cs (sparse-rest false cs s), ap (λ (m : ℕ). weight (suc m)) (suc-eq e))
+
+order-le : (cs ds : List Bool) → length cs ≡ length ds → T (sparse cs) → T (sparse ds) → number cs ≤ number ds → sum cs ≤ sum ds
+order-le cs ds e s t h =
+    ⊎-elim (λ q. le-of-eq (ap sum (number-inj cs ds e q))) (λ l. le-of-lt (order-lt cs ds e s t l)) (eq-or-lt-of-le h)
 
 -- the greatest legal word
 top : ℕ
@@ -89,9 +83,9 @@ too-large w h = go (ltb w (2 ^ 46)) (sparse (cells 46 w)) refl refl
     go true false e f = refl
     go true true e f = sym (lt-leb _ _ (large w (ltb-true _ _ e) h (holds (sparse (cells 46 w)) f)))
 
-pub by-neighbours : (w : ℕ) → w ≤ 0x288545101124 → eqb (bitAnd w (w / 2)) 0 ≡ legalWord w
+pub by-neighbours : (w : ℕ) → w ≤ 0x288545101124 → sparse (cells 46 w) ≡ legalWord w
 unfolding legalWord legal
-by-neighbours w h = sparse-test w (omega arith) ∙ go (sparse (cells 46 w)) refl
+by-neighbours w h = go (sparse (cells 46 w)) refl
   where
     go : (b : Bool) → sparse (cells 46 w) ≡ b → b ≡ (ltb w (2 ^ 46) && (b && leb (sum (cells 46 w)) 4294967295))
     go false f = rw (lt-ltb w (2 ^ 46) (omega arith))
