@@ -19,7 +19,7 @@ use Rattle.cells.proofs.Bytes.{length-bits, bits-append, drop-bits, tak
 use Rattle.cells.proofs.Words.{drop-take}
 
 -- m cells from a on, where they lie in the first n
-pub take-drop-take {ℓ} : {A : Type ℓ} (m a n : ℕ) (l : List A) → a + m ≤ n → take m (drop a (take n l)) ≡ take m (drop a l)
+take-drop-take {ℓ} : {A : Type ℓ} (m a n : ℕ) (l : List A) → a + m ≤ n → take m (drop a (take n l)) ≡ take m (drop a l)
 take-drop-take m a n l h =
     let e : n ≡ a + (n - a) = omega arith in
     ap (λ (k : ℕ). take m (drop a (take k l))) e ∙ ap (take m) (drop-take a (n - a) l) ∙ take-take m (n - a) (drop a l) (omega arith)
@@ -45,7 +45,7 @@ window-step l k j h b =
     ∙ ap₂ (λ (x y : ℕ). number (bits (take j (drop k l))) * 2 ^ x + y) (length-bits (getD l (k + j) 0 ∷ [])) (number-byte (getD l (k + j) 0) b)
 
 -- word i of a page in a window of n bytes from byte k on, which has a cells before the word and s after it
-pub word-window : (page : List ℕ) (i k n a s : ℕ) → start i ≡ 8 * k + a → a + 46 + s ≡ 8 * n → k + n ≤ length page
+word-window : (page : List ℕ) (i k n a s : ℕ) → start i ≡ 8 * k + a → 8 * n ≡ a + (46 + s) → k + n ≤ length page
     → number (wordAt page i) ≡ number (bits (take n (drop k page))) / 2 ^ s % 2 ^ 46
 unfolding wordAt
 word-window page i k n a s e w h =
@@ -55,10 +55,10 @@ word-window page i k n a s e w h =
     ∙ sym (take-drop-take 46 a (8 * n) (bits (drop k page)) (omega arith))
     ∙ ap (λ (l : List Bool). take 46 (drop a l)) (take-bits n (drop k page)))
     ∙ number-part (bits (take n (drop k page))) a 46 s
-    (length-bits (take n (drop k page)) ∙ ap (λ (x : ℕ). 8 * x) (length-take-le n (drop k page) (rw length-drop (omega arith))) ∙ sym w)
+    (length-bits (take n (drop k page)) ∙ ap (λ (x : ℕ). 8 * x) (length-take-le n (drop k page) (rw length-drop (omega arith))) ∙ w ∙ omega arith)
 
 -- m digits of a number replaced, with a before them and s after
-pub cells-splice : (l : List Bool) (a m s w : ℕ) → length l ≡ a + (m + s) → w < 2 ^ m
+cells-splice : (l : List Bool) (a m s w : ℕ) → length l ≡ a + (m + s) → w < 2 ^ m
     → cells (a + (m + s)) (number l / 2 ^ (m + s) * 2 ^ (m + s) + (w * 2 ^ s + number l % 2 ^ s)) ≡ splice a (cells m w) l
 unfolding splice
 cells-splice l a m s w e h =
@@ -77,7 +77,7 @@ cells-splice l a m s w e h =
     ∙ ap (λ (y : List Bool). cells m w ++ y) (end ∙ ap (λ (k : ℕ). drop (a + k) l) (sym (length-cells m w))))
 
 -- a part replaced within a window of n from o on
-pub splice-window : (l new : List Bool) (o a n : ℕ) → a + length new ≤ n
+splice-window : (l new : List Bool) (o a n : ℕ) → a + length new ≤ n
     → take o l ++ (splice a new (take n (drop o l)) ++ drop (o + n) l) ≡ splice (o + a) new l
 unfolding splice
 splice-window l new o a n h =
@@ -99,7 +99,7 @@ splice-window l new o a n h =
     ∙ ap (λ (u : List Bool). u ++ (new ++ drop (o + a + length new) l)) (sym (take-add o a l))
 
 -- the store of a word by way of a window: n bytes from k on are put back with the word's cells replaced
-pub word-put : (page : List ℕ) (i k n a s w : ℕ) → Bytes page → start i ≡ 8 * k + a → 8 * n ≡ a + (46 + s) → k + n ≤ length page → w < 2 ^ 46
+word-put : (page : List ℕ) (i k n a s w : ℕ) → Bytes page → start i ≡ 8 * k + a → 8 * n ≡ a + (46 + s) → k + n ≤ length page → w < 2 ^ 46
     → paste page k (bytes n (cells (8 * n) (number (bits (take n (drop k page))) / 2 ^ (46 + s) * 2 ^ (46 + s) + (w * 2 ^ s + number (bits (take n (drop k page))) % 2 ^ s)))) n
     ≡ putWord page i (cells 46 w)
 unfolding putWord
@@ -133,11 +133,27 @@ word-put page i k n a s w b e z h hw =
 
 -- ---- where the window of seven bytes stands around word i
 
-pub place : (i : ℕ) → start i ≡ 8 * (5 * i + (3 * i + 10) / 4) + (10 - 2 * ((i + 1) % 4))
+place : (i : ℕ) → start i ≡ 8 * (5 * i + (3 * i + 10) / 4) + (10 - 2 * ((i + 1) % 4))
 place i = omega arith
 
-pub within : (i : ℕ) → 10 - 2 * ((i + 1) % 4) + 46 + 2 * ((i + 1) % 4) ≡ 8 * 7
+within : (i : ℕ) → 8 * 7 ≡ 10 - 2 * ((i + 1) % 4) + (46 + 2 * ((i + 1) % 4))
 within i = omega arith
 
-pub within′ : (i : ℕ) → 8 * 7 ≡ 10 - 2 * ((i + 1) % 4) + (46 + 2 * ((i + 1) % 4))
-within′ i = omega arith
+-- what a load reads, and what a store leaves, by a window that starts at byte k with s cells after the word
+module _ (page : List ℕ) (i k s : ℕ) (ek : k ≡ 5 * i + (3 * i + 10) / 4) (es : s ≡ 2 * ((i + 1) % 4)) (h : k + 7 ≤ length page) where
+  starts : start i ≡ 8 * k + (10 - s)
+  starts = rw (ek, es) (place i)
+
+  holds : 8 * 7 ≡ 10 - s + (46 + s)
+  holds = rw es (within i)
+
+  pub load-window : (v : ℕ) → v ≡ number (bits (take 7 (drop k page))) → v / 2 ^ s % 2 ^ 46 ≡ number (wordAt page i)
+  load-window v ev = ap (λ (x : ℕ). x / 2 ^ s % 2 ^ 46) ev ∙ sym (word-window page i k 7 (10 - s) s starts holds h)
+
+  pub store-window : (old new w : ℕ) → Bytes page → w < 2 ^ 46 → old ≡ number (bits (take 7 (drop k page)))
+      → new ≡ old / 2 ^ (46 + s) * 2 ^ (46 + s) + (w * 2 ^ s + old % 2 ^ s)
+      → paste page k (bytes 7 (cells 56 new)) 7 ≡ putWord page i (cells 46 w)
+  store-window old new w b hw eo en =
+      ap (λ (x : ℕ). paste page k (bytes 7 (cells 56 x)) 7)
+      (en ∙ ap (λ (o : ℕ). o / 2 ^ (46 + s) * 2 ^ (46 + s) + (w * 2 ^ s + o % 2 ^ s)) eo)
+      ∙ word-put page i k 7 (10 - s) s w b starts holds h hw

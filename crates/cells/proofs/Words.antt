@@ -189,6 +189,22 @@ putWords-more page ws w hs e h =
     single : (w : List Bool) → join (w ∷ []) ≡ w
     single w = unfold join in append-nil w
 
+-- the words that follow stay
+pub wordAt-putWords : (page : List ℕ) (ws : List (List Bool)) (j : ℕ) → Words ws → length ws ≤ j → start (length ws) ≤ 8 * length page
+    → wordAt (putWords page ws) j ≡ wordAt page j
+unfolding putWords wordAt
+wordAt-putWords page ws j hs l h =
+    let lj = length-join ws hs in
+    let b : length (bits page) ≡ 8 * length page = length-bits page in
+    let s = splice 24 (join ws) (bits page) in
+    ap (λ (x : List Bool). take 46 (drop (start j) x))
+    (bits-bytes (length page) s (length-splice 24 (join ws) (bits page) (omega arith) ∙ b))
+    ∙ ap (take 46) (splice-after (start j) 24 (join ws) (bits page) (omega arith) (omega arith))
+
+pub length-putWords : (page : List ℕ) (ws : List (List Bool)) → length (putWords page ws) ≡ length page
+unfolding putWords
+length-putWords page ws = length-bytes (length page) (splice 24 (join ws) (bits page))
+
 pub length-pageWords : (page : List ℕ) (n : ℕ) → length (pageWords page n) ≡ n
 unfolding pageWords
 length-pageWords page n = length-pieces n (drop 24 (bits page))

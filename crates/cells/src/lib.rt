@@ -20,14 +20,29 @@ fn window(page: &[u8], k: usize) -> u64
     v
 }
 
-// Word i of a page. In the window around it, 2 * ((i + 1) % 4) cells come after it.
+// Where the window of word i starts, in bytes.
+fn window_start(i: usize) -> usize
+    requires { ⌜ i < 2 ^ 61 ⌝ }
+    ensures { λ r. ⌜ r ≡ 5 * i + (3 * i + 10) / 4 ⌝ }
+{
+    5 * i + (3 * i + 10) / 4
+}
+
+// How many cells of the window come after word i.
+fn cells_after(i: usize) -> usize
+    requires { ⌜ i < 2 ^ 61 ⌝ }
+    ensures { λ r. ⌜ r ≡ 2 * ((i + 1) % 4) ⌝ }
+{
+    2 * ((i + 1) % 4)
+}
+
+// Word i of a page.
 pub fn load_word(page: &[u8], i: usize) -> u64
     requires { ⌜ start i + 46 ≤ 8 * length (now page) ⌝ }
     ensures { λ r. ⌜ r ≡ number (wordAt (now (page .entry)) i) ⌝ }
 {
-    let v = window(page, 5 * i + (3 * i + 10) / 4);
-    let s = 2 * ((i + 1) % 4);
-    (v >> s) % 0x4000_0000_0000
+    let v = window(page, window_start(i));
+    (v >> cells_after(i)) % 0x4000_0000_0000
 }
 
 // Puts the seven low bytes of v from byte k on, the highest first.
@@ -56,8 +71,7 @@ pub fn store_word(page: &mut [u8], i: usize, word: u64)
     requires { ⌜ (start i + 46 ≤ 8 * length (now page)) × (word < 2 ^ 46) ⌝ }
     ensures { λ _. ⌜ now (page .exit) ≡ putWord (now (page .entry)) i (cells 46 word) ⌝ }
 {
-    let k = 5 * i + (3 * i + 10) / 4;
-    let s = 2 * ((i + 1) % 4);
+    let k = window_start(i);
     let old = window(page, k);
-    put_window(page, k, replaced(old, s, word));
+    put_window(page, k, replaced(old, cells_after(i), word));
 }

@@ -1,35 +1,21 @@
--- `cells::store_word` meets its contract. Assumes nothing.
-use mathlib.Core.Path.{ap, _∙_}
-use Prim.Native.Nat.{ℕ, _+_, _-_, _*_, _/_, _%_, _^_}
+-- `cells::store_word` meets its contract: the window is put back with the word's cells replaced.
+-- Assumes nothing.
+use mathlib.Core.Path.{_∙_}
 use native.Mathlib.Omega.{arith}
-use lib.Seq.{paste}
-use Rattle.cells.specs.Cells.{cells}
-use Rattle.cells.specs.Bytes.{bytes, Bytes}
-use Rattle.cells.proofs.SevenBytes.{word-put, place, within′}
 use borrow.Author.Needs.{needs}
+use Rattle.cells.specs.Bytes.{Bytes}
+use Rattle.cells.proofs.SevenBytes.{store-window}
 use Rattle.cells.proofs.store_word.Statement.{statement}
 use Rattle.cells.proofs.store_word.Tie as tie
 
-mul-k : tie.Need-mul-k
-mul-k c = search needs
-
-add-k : tie.Need-add-k
-add-k c = search needs
-
-mul-k-2 : tie.Need-mul-k-2
-mul-k-2 c = search needs
-
-add-k-2 : tie.Need-add-k-2
-add-k-2 c = search needs
-
-add-s : tie.Need-add-s
-add-s c = search needs
-
-mul-s : tie.Need-mul-s
-mul-s c = search needs
+window-start-requires : tie.Need-window-start-requires
+window-start-requires c κs = search needs
 
 window-requires : tie.Need-window-requires
 window-requires c κs = search needs
+
+cells-after-requires : tie.Need-cells-after-requires
+cells-after-requires c κs = search needs
 
 replaced-requires : tie.Need-replaced-requires
 replaced-requires c κs = search needs
@@ -42,29 +28,24 @@ same-length c = search needs
 
 returns : tie.Need-returns
 returns c =
-    let d = c .before .before .before .before .before .before .before in
-    let a = d .before .args in
-    let p = a .page .now in
-    let k = 5 * a .i + (3 * a .i + 10) / 4 in
-    let s = 2 * ((a .i + 1) % 4) in
-    let b : Bytes p = λ j. omega (arith, d .slice-known .given j) in
-    c .before .before .put-window .ensures
-    ∙ ap (λ (v : ℕ). paste p k (bytes 7 (cells 56 v)) 7)
-    (c .before .before .before .replaced .ensures
-    ∙ ap (λ (o : ℕ). o / 2 ^ (46 + s) * 2 ^ (46 + s) + (a .word * 2 ^ s + o % 2 ^ s)) (c .before .before .before .before .before .window .ensures))
-    ∙ word-put p (a .i) k 7 (10 - s) s (a .word) b (place (a .i)) (within′ (a .i)) (omega arith) (omega arith)
+    let put = c .before .before in
+    let new = put .before in
+    let after = new .before in
+    let old = after .before .before in
+    let at = old .before .before in
+    let a = at .before .before .args in
+    let b : Bytes (a .page .now) = λ j. omega (arith, at .before .slice-known .given j) in
+    put .put-window .ensures
+    ∙ store-window _ _ _ _ (at .window-start .ensures) (after .cells-after .ensures) (omega (arith, at .window-start .ensures))
+    _ _ _ b (omega arith) (old .window .ensures) (new .replaced .ensures)
 
 pub store-word-spec : {M : Type 1} → statement M
 store-word-spec =
     tie.close
     (tie.spec
-    mul-k
-    mul-k-2
-    add-k
-    add-k-2
-    add-s
-    mul-s
+    window-start-requires
     window-requires
+    cells-after-requires
     replaced-requires
     put-window-requires
     same-length
