@@ -96,9 +96,7 @@ static inline uint64_t wom_index(uint64_t answer)
  *  Encodes a value as a word of the first round.
  *    value : any 32-bit value.
  * @return : the legal word of that value, in bits 0 to 45.
- *           It never refuses.
- *  Defined for every value of 'value'; no precondition; touches no memory of
- *  the caller's. */
+ *           It never refuses. */
 uint64_t wom_encode_word(uint32_t value);
 
 /*! wom_decode_word() :
@@ -109,9 +107,7 @@ uint64_t wom_encode_word(uint32_t value);
  *             10 (WOM_HIGH_BIT)   if a bit above cell 0 is set,
  *             11 (WOM_NEIGHBOURS) if two neighbouring cells are set,
  *             12 (WOM_SUM)        if the sum of the set weights exceeds
- *                                 4294967295.
- *  Defined for every value of 'word'; no precondition; touches no memory of
- *  the caller's. */
+ *                                 4294967295. */
 uint64_t wom_decode_word(uint64_t word);
 
 /*! wom_fill_word() :
@@ -124,8 +120,6 @@ uint64_t wom_decode_word(uint64_t word);
  *             11 (WOM_NEIGHBOURS) if two neighbouring cells are set,
  *             12 (WOM_SUM)        if the sum of the set weights exceeds
  *                                 4294967295.
- *  Defined for every value of 'word'; no precondition; touches no memory of
- *  the caller's.
  *  Note : a filled word need not be legal. The word of value 0 is filled to
  *         every even cell, which each function that takes a word refuses
  *         with 12. */
@@ -140,9 +134,7 @@ uint64_t wom_fill_word(uint64_t word);
  *             10 (WOM_HIGH_BIT)   if a bit above cell 0 is set,
  *             11 (WOM_NEIGHBOURS) if two neighbouring cells are set,
  *             12 (WOM_SUM)        if the sum of the set weights exceeds
- *                                 4294967295.
- *  Defined for every value of 'word'; no precondition; touches no memory of
- *  the caller's. */
+ *                                 4294967295. */
 uint64_t wom_word_capacity(uint64_t word);
 
 #ifdef __cplusplus
