@@ -2,7 +2,7 @@
 ghost use mathlib.Core.Path.{_≡_};
 ghost use Prim.Native.Nat.{_/_, _^_, _<_};
 ghost use Rattle.cells.specs.Cells.{number, cells};
-ghost use Rattle.word.specs.Fill.{fill, clear, full};
+ghost use Rattle.word.specs.Fill.{fill, clear, full, wellFormed};
 ghost use Rattle.word.specs.Steps.{free};
 
 // A word with each cell moved d places on, away from cell 0.
@@ -47,10 +47,18 @@ pub fn fill_word(word: u64) -> u64
     word | separators_of(free_cells(word))
 }
 
-// Whether the fill could set no further cell. Of the separators of a second-round word: whether the word is well formed.
+// Whether the fill could set no further cell.
 pub fn is_full(word: u64) -> bool
     requires { ⌜ word < 2 ^ 46 ⌝ }
     ensures { λ r. ⌜ r ≡ full (cells 46 word) ⌝ }
 {
     free_cells(word) == 0
+}
+
+// Whether a word of a second-round page is well formed.
+pub fn is_well_formed(word: u64) -> bool
+    requires { ⌜ word < 2 ^ 46 ⌝ }
+    ensures { λ r. ⌜ r ≡ wellFormed (cells 46 word) ⌝ }
+{
+    is_full(separators_of(word))
 }
