@@ -169,7 +169,8 @@ static uint64_t refused(unsigned number)
     return (uint64_t)number << 56;
 }
 
-static uint64_t reference_decode(uint64_t word)
+/* What is made of the cells of a legal word; a refusal for any other word. */
+static uint64_t if_legal(uint64_t word, uint64_t (*make)(int cell[CELLS]))
 {
     unsigned refusal = reference_refusal(word);
     int cell[CELLS];
@@ -177,7 +178,17 @@ static uint64_t reference_decode(uint64_t word)
     if (refusal)
         return refused(refusal);
     cells_of_word(word, cell);
+    return make(cell);
+}
+
+static uint64_t value_of_cells(int cell[CELLS])
+{
     return sum_of_weights(cell);
+}
+
+static uint64_t reference_decode(uint64_t word)
+{
+    return if_legal(word, value_of_cells);
 }
 
 /* Fills from cell 0 to cell 45. */
@@ -190,16 +201,15 @@ static void fill_cells(int cell[CELLS])
             cell[c] = 1;
 }
 
-static uint64_t reference_fill(uint64_t word)
+static uint64_t filled_word(int cell[CELLS])
 {
-    unsigned refusal = reference_refusal(word);
-    int cell[CELLS];
-
-    if (refusal)
-        return refused(refusal);
-    cells_of_word(word, cell);
     fill_cells(cell);
     return word_of_cells(cell);
+}
+
+static uint64_t reference_fill(uint64_t word)
+{
+    return if_legal(word, filled_word);
 }
 
 /* Marks the data cells by reading back from cell 0: a 0 is passed over; a 1 is
@@ -223,17 +233,17 @@ static unsigned find_data_cells(const int cell[CELLS], int is_data[CELLS])
     return count;
 }
 
-static uint64_t reference_capacity(uint64_t word)
+static uint64_t data_cells_when_filled(int cell[CELLS])
 {
-    unsigned refusal = reference_refusal(word);
-    int cell[CELLS];
     int is_data[CELLS];
 
-    if (refusal)
-        return refused(refusal);
-    cells_of_word(word, cell);
     fill_cells(cell);
     return find_data_cells(cell, is_data);
+}
+
+static uint64_t reference_capacity(uint64_t word)
+{
+    return if_legal(word, data_cells_when_filled);
 }
 
 /* ---- Literal values ---------------------------------------------------- */
