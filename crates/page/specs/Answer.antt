@@ -1,0 +1,98 @@
+-- What each operation on a page answers and what it leaves in its buffers (document 01, "What each operation returns and refuses"), and
+-- the paper's number and values for each case of its enum.
+-- Assumes nothing.
+use mathlib.Core.Bool.{Bool, cond, not, _||_}
+use mathlib.Core.List.{List, _++_}
+use Prim.Native.Nat.{ℕ, _*_}
+use lib.Dec.{eqb, ltb}
+use lib.ListN.{length, drop}
+use Rattle.cells.specs.Words.{pageWords}
+use Rattle.word.specs.Word.{legal}
+use Rattle.word.specs.Fill.{wellFormed}
+use Rattle.word.specs.Answer.{Answer, result, refusal}
+use Rattle.page.specs.Page.{state, byte1, byte2, zeros, someSet, lowest, firstRecord, firstPage, capacityAll, readAll, outcomeOf, secondRecord}
+
+-- a refusal writes nothing: what a buffer holds afterwards, by the answer, from what it held and what an accepted call leaves
+abbrev pub after : Answer → List ℕ → List ℕ → List ℕ
+after (result x) old new = new
+after (refusal n i) old new = old
+
+-- bytes put at the start of an output; the output after them is unchanged
+unfoldable pub atStart : List ℕ → List ℕ → List ℕ
+atStart new out = new ++ drop (length new) out
+
+-- the answer is a, unless the condition holds: then the refusal
+abbrev pub refuse : Bool → ℕ → ℕ → Answer → Answer
+refuse holds n i a = cond holds (refusal n i) a
+
+-- refuses 7 with the lowest index of a word that does not pass the test
+unfoldable pub refuseWord : (List Bool → Bool) → List (List Bool) → Answer → Answer
+refuseWord test ws a = refuse (ltb (lowest test ws) (length ws)) 7 (lowest test ws) a
+
+-- ---- write first
+
+-- refuses 1 if the page is not 256 bytes, 2 if the data is not 176 bytes, 4 if any page byte is not 0
+unfoldable pub writeFirstAnswer : List ℕ → List ℕ → Answer
+writeFirstAnswer page bs =
+    refuse (not (eqb (length page) 256)) 1 0
+    (refuse (not (eqb (length bs) 176)) 2 0
+    (refuse (not (zeros page)) 4 0
+    (result 0)))
+
+abbrev pub writeFirstLeaves : List ℕ → List ℕ → List ℕ
+writeFirstLeaves page bs = after (writeFirstAnswer page bs) page (firstPage 44 page bs)
+
+-- ---- a first-round page
+
+-- refuses 1 if the page is not 256 bytes, 5 if the state is not 01, 6 if byte 1 or byte 2 is not 0, 7 with the lowest index of a word
+-- that is not legal; else the answer is a
+unfoldable pub ifFirstRound : List ℕ → Answer → Answer
+ifFirstRound page a =
+    refuse (not (eqb (length page) 256)) 1 0
+    (refuse (not (eqb (state page) 1)) 5 0
+    (refuse (not (eqb (byte1 page) 0) || not (eqb (byte2 page) 0)) 6 0
+    (refuseWord legal (pageWords page 44)
+    a)))
+
+-- read first: refuses 1, 5, 6, 7, then 3 if the output is shorter than 176
+unfoldable pub readFirstAnswer : List ℕ → List ℕ → Answer
+readFirstAnswer page out = ifFirstRound page (refuse (ltb (length out) 176) 3 0 (result 0))
+
+-- 176 bytes at the start of the output
+abbrev pub readFirstLeaves : List ℕ → List ℕ → List ℕ
+readFirstLeaves page out = after (readFirstAnswer page out) out (atStart (firstRecord (pageWords page 44)) out)
+
+-- page capacity: refuses 1, 5, 6, 7 as in read first; returns the bits that a first-round page offers
+unfoldable pub pageCapacityAnswer : List ℕ → Answer
+pageCapacityAnswer page = ifFirstRound page (result (capacityAll (pageWords page 44)))
+
+-- rewrite: refuses 1, 5, 6, 7 as in read first, then 8 with the page's capacity if 8 times the record's length exceeds it
+unfoldable pub rewriteAnswer : List ℕ → List ℕ → Answer
+rewriteAnswer page bs =
+    ifFirstRound page
+    (refuse (ltb (capacityAll (pageWords page 44)) (8 * length bs)) 8 (capacityAll (pageWords page 44))
+    (result 0))
+
+abbrev pub rewriteLeaves : List ℕ → List ℕ → List ℕ
+rewriteLeaves page bs = after (rewriteAnswer page bs) page (outcomeOf 44 page bs)
+
+-- ---- a second-round page
+
+-- refuses 1 if the page is not 256 bytes, 5 if the state is not 07, 6 if byte 1 exceeds 126 or byte 2 is not 0, 7 with the lowest index of
+-- a word not well formed, 9 if 8 times byte 1 exceeds the number of data cells or a spare data cell is 1; else the answer is a
+unfoldable pub ifSecondRound : List ℕ → Answer → Answer
+ifSecondRound page a =
+    refuse (not (eqb (length page) 256)) 1 0
+    (refuse (not (eqb (state page) 7)) 5 0
+    (refuse (ltb 126 (byte1 page) || not (eqb (byte2 page) 0)) 6 0
+    (refuseWord wellFormed (pageWords page 44)
+    (refuse (ltb (length (readAll (pageWords page 44))) (8 * byte1 page) || someSet (drop (8 * byte1 page) (readAll (pageWords page 44)))) 9 0
+    a))))
+
+-- read second: refuses 1, 5, 6, 7, 9, then 3 if the output is shorter than the record; returns the length
+unfoldable pub readSecondAnswer : List ℕ → List ℕ → Answer
+readSecondAnswer page out = ifSecondRound page (refuse (ltb (length out) (byte1 page)) 3 0 (result (byte1 page)))
+
+-- the record at the start of the output
+abbrev pub readSecondLeaves : List ℕ → List ℕ → List ℕ
+readSecondLeaves page out = after (readSecondAnswer page out) out (atStart (secondRecord 44 page) out)
