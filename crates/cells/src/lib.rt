@@ -1,31 +1,39 @@
-// The words of a page as numbers of 64 bits. A word moves whole: the seven bytes that end at its last byte hold it, and a load or a
-// store goes through that window.
+// The words of a page as numbers of 64 bits. A word moves whole: the eight bytes that end at its last byte hold it, and a load or a
+// store goes through that window. Cells at any place are put through the eight bytes from the one that holds their first on.
 ghost use mathlib.Core.Path.{_≡_};
 ghost use Prim.Native.Nat.{_+_, _*_, _/_, _%_, _^_, _≤_, _<_};
 ghost use lib.ListN.{length, take, drop};
 ghost use lib.Seq.{paste};
 ghost use Rattle.cells.specs.Cells.{number, cells};
 ghost use Rattle.cells.specs.Bytes.{bits, bytes};
-ghost use Rattle.cells.specs.Words.{start, wordAt, putWord};
+ghost use Rattle.cells.specs.Words.{start, wordAt, putCells, putWord};
 
-// The number that seven bytes write, the highest first.
-fn window(page: &[u8], k: usize) -> u64
-    requires { ⌜ k + 7 ≤ length (now page) ⌝ }
-    ensures { λ r. ⌜ r ≡ number (bits (take 7 (drop k (now (page .entry))))) ⌝ }
+// The number that four bytes write, the highest first.
+pub fn four_bytes(page: &[u8], k: usize) -> u64
+    requires { ⌜ k + 4 ≤ length (now page) ⌝ }
+    ensures { λ r. ⌜ r ≡ number (bits (take 4 (drop k (now (page .entry))))) ⌝ }
 {
     let mut v: u64 = 0;
-    for j in 0..7 {
+    for j in 0..4 {
         v = v * 256 + page[k + j] as u64;
     }
     v
 }
 
+// The number that eight bytes write, by halves.
+fn window(page: &[u8], k: usize) -> u64
+    requires { ⌜ k + 8 ≤ length (now page) ⌝ }
+    ensures { λ r. ⌜ r ≡ number (bits (take 8 (drop k (now (page .entry))))) ⌝ }
+{
+    four_bytes(page, k) * 0x1_0000_0000 + four_bytes(page, k + 4)
+}
+
 // Where the window of word i starts, in bytes.
 fn window_start(i: usize) -> usize
     requires { ⌜ i < 2 ^ 61 ⌝ }
-    ensures { λ r. ⌜ r ≡ 5 * i + (3 * i + 10) / 4 ⌝ }
+    ensures { λ r. ⌜ r ≡ 5 * i + (3 * i + 6) / 4 ⌝ }
 {
-    5 * i + (3 * i + 10) / 4
+    5 * i + (3 * i + 6) / 4
 }
 
 // How many cells of the window come after word i.
@@ -36,34 +44,34 @@ fn cells_after(i: usize) -> usize
     2 * ((i + 1) % 4)
 }
 
-// Word i of a page.
+// Word i of a page. Two shifts cut it out, and not a remainder: that would show the compiler that the window's first byte is not
+// needed, and it would read the other seven one by one.
 pub fn load_word(page: &[u8], i: usize) -> u64
     requires { ⌜ start i + 46 ≤ 8 * length (now page) ⌝ }
     ensures { λ r. ⌜ r ≡ number (wordAt (now (page .entry)) i) ⌝ }
 {
     let v = window(page, window_start(i));
-    (v >> cells_after(i)) % 0x4000_0000_0000
+    (v << (18 - cells_after(i))) >> 18
 }
 
-// Puts the seven low bytes of v from byte k on, the highest first.
+// Puts the eight bytes of v from byte k on, the highest first.
 fn put_window(page: &mut [u8], k: usize, v: u64)
-    requires { ⌜ k + 7 ≤ length (now page) ⌝ }
-    ensures { λ _. ⌜ now (page .exit) ≡ paste (now (page .entry)) k (bytes 7 (cells 56 v)) 7 ⌝ }
+    requires { ⌜ k + 8 ≤ length (now page) ⌝ }
+    ensures { λ _. ⌜ now (page .exit) ≡ paste (now (page .entry)) k (bytes 8 (cells 64 v)) 8 ⌝ }
 {
-    for j in 0..7 {
-        page[k + j] = ((v >> (8 * (6 - j))) % 256) as u8;
+    for j in 0..8 {
+        page[k + j] = ((v >> (8 * (7 - j))) % 256) as u8;
     }
 }
 
-// A number with the 46 bits above its s lowest replaced by a word.
-fn replaced(old: u64, s: usize, word: u64) -> u64
-    requires { ⌜ (s ≤ 17) × (word < 2 ^ 46) ⌝ }
-    ensures { λ r. ⌜ r ≡ old / 2 ^ (46 + s) * 2 ^ (46 + s) + (word * 2 ^ s + old % 2 ^ s) ⌝ }
+// A number with the count bits above its s lowest replaced by those of v.
+fn replaced(old: u64, s: usize, count: usize, v: u64) -> u64
+    requires { ⌜ (s ≤ 63) × (count ≤ 63) × (count + s ≤ 64) × (v < 2 ^ count) ⌝ }
+    ensures { λ r. ⌜ r ≡ old / 2 ^ (count + s) * 2 ^ (count + s) + (v * 2 ^ s + old % 2 ^ s) ⌝ }
 {
-    let t = 46 + s;
-    let above = (old >> t) << t;
-    let below = old - ((old >> s) << s);
-    above + ((word << s) + below)
+    let one: u64 = 1;
+    let field = (old >> s) % (one << count);
+    old - (field << s) + (v << s)
 }
 
 // Puts word i of a page: its 46 cells change and no other.
@@ -73,5 +81,15 @@ pub fn store_word(page: &mut [u8], i: usize, word: u64)
 {
     let k = window_start(i);
     let old = window(page, k);
-    put_window(page, k, replaced(old, cells_after(i), word));
+    put_window(page, k, replaced(old, cells_after(i), 46, word));
+}
+
+// Puts the count low bits of v as the cells from place `at` on; no other cell changes.
+pub fn put_cells(page: &mut [u8], at: usize, count: usize, v: u64)
+    requires { ⌜ (at / 8 + 8 ≤ length (now page)) × (1 ≤ count) × (count ≤ 56) × (v < 2 ^ count) ⌝ }
+    ensures { λ _. ⌜ now (page .exit) ≡ putCells (now (page .entry)) at (cells count v) ⌝ }
+{
+    let k = at / 8;
+    let old = window(page, k);
+    put_window(page, k, replaced(old, 64 - at % 8 - count, count, v));
 }

@@ -1,1 +1,19 @@
--- laws
+-- The laws of a page.
+pub mod Lowest
+pub mod Rounds
+pub mod Checks
+pub mod LegalWords
+pub mod FirstRecord
+pub mod Capacities
+pub mod FirstPages
+pub mod Acceptance
+pub mod Bounds
+pub mod SecondWords
+pub mod Outcome
+pub mod TwiceWritten
+pub mod Zeros
+pub mod Loaded
+pub mod Scanning
+pub mod Measuring
+pub mod Cutting
+pub mod Rewriting

@@ -11,6 +11,10 @@ use Rattle.word.specs.Word.{legal}
 use Rattle.word.specs.Fill.{wellFormed}
 use Rattle.word.specs.Answer.{Answer, result, refusal}
 use Rattle.page.specs.Page.{state, byte1, byte2, zeros, someSet, lowest, firstRecord, firstPage, capacityAll, readAll, outcomeOf, secondRecord}
+use Rattle.page.specs.declared.check.FirstCheck.{FirstCheck}
+use Rattle.page.specs.declared.check.FirstCheck.the-variants as firstCheck
+use Rattle.page.specs.declared.Measured.{Measured}
+use Rattle.page.specs.declared.Measured.the-variants as measured
 
 -- a refusal writes nothing: what a buffer holds afterwards, by the answer, from what it held and what an accepted call leaves
 abbrev pub after : Answer → List ℕ → List ℕ → List ℕ
@@ -96,3 +100,19 @@ readSecondAnswer page out = ifSecondRound page (refuse (ltb (length out) (byte1 
 -- the record at the start of the output
 abbrev pub readSecondLeaves : List ℕ → List ℕ → List ℕ
 readSecondLeaves page out = after (readSecondAnswer page out) out (atStart (secondRecord 44 page) out)
+
+-- ---- the paper's number and values for each case of an enum
+
+abbrev pub firstCheckCode : FirstCheck → Answer
+firstCheckCode firstCheck.Passed = result 0
+firstCheckCode firstCheck.PageLength = refusal 1 0
+firstCheckCode firstCheck.State = refusal 5 0
+firstCheckCode firstCheck.Header = refusal 6 0
+firstCheckCode (firstCheck.Word i) = refusal 7 i
+
+abbrev pub measuredCode : Measured → Answer
+measuredCode (measured.Capacity n) = result n
+measuredCode measured.PageLength = refusal 1 0
+measuredCode measured.State = refusal 5 0
+measuredCode measured.Header = refusal 6 0
+measuredCode (measured.Word i) = refusal 7 i

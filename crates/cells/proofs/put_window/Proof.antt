@@ -13,13 +13,13 @@ use Rattle.cells.proofs.put_window.Statement.{statement}
 use Rattle.cells.proofs.put_window.Tie as tie
 
 abbrev Inv-loop : tie.InvT-loop
-Inv-loop page₀ k v j₀ page j = (j ≤ 7) × (page ≡ paste page₀ k (bytes 7 (cells 56 v)) j) × (length page ≡ length page₀)
+Inv-loop page₀ k v j₀ page j = (j ≤ 8) × (page ≡ paste page₀ k (bytes 8 (cells 64 v)) j) × (length page ≡ length page₀)
 
 abbrev μ-loop : tie.MeasureT-loop
-μ-loop page₀ k v j₀ page j = 7 - j
+μ-loop page₀ k v j₀ page j = 8 - j
 
 loop-holds : tie.Need-loop-holds Inv-loop μ-loop
-loop-holds c = (omega arith, paste-zero (c .args .page .now) (c .args .k) (bytes 7 (cells 56 (c .args .v))), refl)
+loop-holds c = (omega arith, paste-zero (c .args .page .now) (c .args .k) (bytes 8 (cells 64 (c .args .v))), refl)
 
 sub-page : tie.Need-sub-page Inv-loop μ-loop
 sub-page c = omega arith
@@ -51,11 +51,11 @@ loop-again c =
     let k = c .before .before .args .k in
     let v = c .before .before .args .v in
     let j = c .before .loop .j in
-    let s = bytes 7 (cells 56 v) in
-    let b : v / 2 ^ (8 * (6 - j)) % 256 ≡ getD s j 0 = sym (byte-at 7 v j (omega arith)) in (
+    let s = bytes 8 (cells 64 v) in
+    let b : v / 2 ^ (8 * (7 - j)) % 256 ≡ getD s j 0 = sym (byte-at 8 v j (omega arith)) in (
       omega arith,
       ap₂ (λ (l : List ℕ) (x : ℕ). set l (k + j) x) (c .before .loop .inv .1) b
-          ∙ paste-suc p k s j 0 (omega arith) (omega (arith, length-bytes 7 (cells 56 v)))
+          ∙ paste-suc p k s j 0 (omega arith) (omega (arith, length-bytes 8 (cells 64 v)))
           ∙ ap (paste p k s) (sym (add-one j)),
       simp length-set (c .before .loop .inv .2),
     )
@@ -65,8 +65,8 @@ same-length c = c .before .loop .inv .2
 
 returns : tie.Need-returns Inv-loop μ-loop
 returns c =
-    let e : c .before .loop .j ≡ 7 = omega arith in
-    c .before .loop .inv .1 ∙ ap (λ (n : ℕ). paste (c .before .before .args .page .now) (c .before .before .args .k) (bytes 7 (cells 56 (c .before .before .args .v))) n) e
+    let e : c .before .loop .j ≡ 8 = omega arith in
+    c .before .loop .inv .1 ∙ ap (λ (n : ℕ). paste (c .before .before .args .page .now) (c .before .before .args .k) (bytes 8 (cells 64 (c .before .before .args .v))) n) e
 
 pub put-window-spec : {M : Type 1} → statement M
 put-window-spec =

@@ -4,7 +4,8 @@ use mathlib.Core.Path.{_∙_}
 use native.Mathlib.Omega.{arith}
 use borrow.Author.Needs.{needs}
 use Rattle.cells.specs.Bytes.{Bytes}
-use Rattle.cells.proofs.SevenBytes.{store-window}
+use Rattle.cells.specs.Words.{start, putWord}
+use Rattle.cells.proofs.WindowLaws.{write-window}
 use Rattle.cells.proofs.store_word.Statement.{statement}
 use Rattle.cells.proofs.store_word.Tie as tie
 
@@ -27,6 +28,7 @@ same-length : tie.Need-same-length
 same-length c = search needs
 
 returns : tie.Need-returns
+unfolding putWord
 returns c =
     let put = c .before .before in
     let new = put .before in
@@ -34,10 +36,12 @@ returns c =
     let old = after .before .before in
     let at = old .before .before in
     let a = at .before .before .args in
+    let k = at .window-start .ensures in
+    let s = after .cells-after .ensures in
     let b : Bytes (a .page .now) = λ j. omega (arith, at .before .slice-known .given j) in
     put .put-window .ensures
-    ∙ store-window _ _ _ _ (at .window-start .ensures) (after .cells-after .ensures) (omega (arith, at .window-start .ensures))
-    _ _ _ b (omega arith) (old .window .ensures) (new .replaced .ensures)
+    ∙ write-window _ (start (a .i)) 46 (at .window-start .result) 8 (after .cells-after .result)
+    (omega arith) (omega arith) (omega arith) _ _ _ b (omega arith) (old .window .ensures) (new .replaced .ensures)
 
 pub store-word-spec : {M : Type 1} → statement M
 store-word-spec =

@@ -1,0 +1,61 @@
+// The second record: its bits put into the data cells of a page's words, and read from them.
+use cells::load_word;
+use cells::store_word;
+use word::second::data_cells;
+use word::second::put_bits;
+use word::separators::fill_word;
+ghost use mathlib.Core.Path.{_≡_};
+ghost use Prim.Native.Nat.{_^_, _+_, _≤_, _<_};
+ghost use lib.ListN.{length, drop, getD};
+ghost use Rattle.cells.specs.Cells.{number, cells};
+ghost use Rattle.cells.specs.Bytes.{bits};
+ghost use Rattle.cells.specs.Words.{pageWords, putWords};
+ghost use Rattle.word.specs.Word.{legal};
+ghost use Rattle.word.specs.Fill.{fit};
+ghost use Rattle.page.specs.Page.{lowest, fillAll, putAll};
+
+// Byte k of a record, 0 after its end.
+fn byte_or_zero(second: &[u8], k: usize) -> u64
+    ensures { λ r. ⌜ r ≡ getD (now (second .entry)) k 0 ⌝ }
+{
+    if k < second.len() {
+        return second[k] as u64;
+    }
+    0
+}
+
+// The number that four bytes of a record write from byte k on, the highest first, with 0 after its end.
+fn four_or_zero(second: &[u8], k: usize) -> u64
+    requires { ⌜ k < 2 ^ 32 ⌝ }
+    ensures { λ r. ⌜ r ≡ number (fit 32 (bits (drop k (now (second .entry))))) ⌝ }
+{
+    let mut v: u64 = 0;
+    for j in 0..4 {
+        v = v * 256 + byte_or_zero(second, k + j);
+    }
+    v
+}
+
+// The `count` bits of a record from bit `at` on, with 0 after its end, as the low bits of a number.
+fn bits_at(second: &[u8], at: usize, count: usize) -> u64
+    requires { ⌜ (at < 2 ^ 32) × (count ≤ 25) ⌝ }
+    ensures { λ r. ⌜ cells count r ≡ fit count (drop at (bits (now (second .entry)))) ⌝ }
+{
+    four_or_zero(second, at / 8) >> (32 - at % 8 - count)
+}
+
+// Fills the words of a page and puts a record's bits into their data cells, 0 into the spare ones.
+pub fn rewrite_words(page: &mut [u8], second: &[u8])
+    requires { ⌜ (length (now page) ≡ 256) × (lowest legal (pageWords (now page) 44) ≡ 44) ⌝ }
+    ensures {
+        λ _. ⌜ now (page .exit) ≡ putWords (now (page .entry)) (putAll (fillAll (pageWords (now (page .entry)) 44)) (bits (now (second .entry)))) ⌝
+    }
+{
+    let mut at: usize = 0;
+    for i in 0..44 {
+        let filled = fill_word(load_word(page, i));
+        let count = data_cells(filled) as usize;
+        store_word(page, i, put_bits(filled, bits_at(second, at, count)));
+        at += count;
+    }
+}
