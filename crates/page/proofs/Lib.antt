@@ -17,3 +17,5 @@ pub mod Scanning
 pub mod Measuring
 pub mod Cutting
 pub mod Rewriting
+pub mod Records
+pub mod Headers

@@ -13,6 +13,12 @@ use Rattle.word.specs.Answer.{Answer, result, refusal}
 use Rattle.page.specs.Page.{state, byte1, byte2, zeros, someSet, lowest, firstRecord, firstPage, capacityAll, readAll, outcomeOf, secondRecord}
 use Rattle.page.specs.declared.check.FirstCheck.{FirstCheck}
 use Rattle.page.specs.declared.check.FirstCheck.the-variants as firstCheck
+use Rattle.page.specs.declared.FirstWritten.{FirstWritten}
+use Rattle.page.specs.declared.FirstWritten.the-variants as firstWritten
+use Rattle.page.specs.declared.FirstRead.{FirstRead}
+use Rattle.page.specs.declared.FirstRead.the-variants as firstRead
+use Rattle.page.specs.declared.Rewritten.{Rewritten}
+use Rattle.page.specs.declared.Rewritten.the-variants as rewritten
 use Rattle.page.specs.declared.Measured.{Measured}
 use Rattle.page.specs.declared.Measured.the-variants as measured
 
@@ -103,12 +109,19 @@ readSecondLeaves page out = after (readSecondAnswer page out) out (atStart (seco
 
 -- ---- the paper's number and values for each case of an enum
 
-abbrev pub firstCheckCode : FirstCheck → Answer
-firstCheckCode firstCheck.Passed = result 0
-firstCheckCode firstCheck.PageLength = refusal 1 0
-firstCheckCode firstCheck.State = refusal 5 0
-firstCheckCode firstCheck.Header = refusal 6 0
-firstCheckCode (firstCheck.Word i) = refusal 7 i
+abbrev pub firstWrittenCode : FirstWritten → Answer
+firstWrittenCode firstWritten.Done = result 0
+firstWrittenCode firstWritten.PageLength = refusal 1 0
+firstWrittenCode firstWritten.RecordLength = refusal 2 0
+firstWrittenCode firstWritten.NotBlank = refusal 4 0
+
+abbrev pub firstReadCode : FirstRead → Answer
+firstReadCode firstRead.Done = result 0
+firstReadCode firstRead.PageLength = refusal 1 0
+firstReadCode firstRead.State = refusal 5 0
+firstReadCode firstRead.Header = refusal 6 0
+firstReadCode (firstRead.Word i) = refusal 7 i
+firstReadCode firstRead.OutputLength = refusal 3 0
 
 abbrev pub measuredCode : Measured → Answer
 measuredCode (measured.Capacity n) = result n
@@ -116,3 +129,19 @@ measuredCode measured.PageLength = refusal 1 0
 measuredCode measured.State = refusal 5 0
 measuredCode measured.Header = refusal 6 0
 measuredCode (measured.Word i) = refusal 7 i
+
+abbrev pub rewrittenCode : Rewritten → Answer
+rewrittenCode rewritten.Done = result 0
+rewrittenCode rewritten.PageLength = refusal 1 0
+rewrittenCode rewritten.State = refusal 5 0
+rewrittenCode rewritten.Header = refusal 6 0
+rewrittenCode (rewritten.Word i) = refusal 7 i
+rewrittenCode (rewritten.TooLong capacity) = refusal 8 capacity
+
+-- the check that read first, page capacity and rewrite share
+abbrev pub firstCheckCode : FirstCheck → Answer
+firstCheckCode firstCheck.Passed = result 0
+firstCheckCode firstCheck.PageLength = refusal 1 0
+firstCheckCode firstCheck.State = refusal 5 0
+firstCheckCode firstCheck.Header = refusal 6 0
+firstCheckCode (firstCheck.Word i) = refusal 7 i

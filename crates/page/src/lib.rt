@@ -1,13 +1,45 @@
 // One page of 256 bytes and 44 words: both writings, both readings, and the capacity between them.
 //
 // Each operation takes byte slices of every length and has no `requires`. It answers by an enum of its own: a value case, and a case for
-// each refusal, in document 01's order; the first refusal that applies is given, and a refusal writes no byte.
+// each refusal. The first refusal that applies, in document 01's order, is given, and a refusal writes no byte.
 mod check;
+mod first;
 mod second;
 mod words;
 
+use check::FirstCheck;
 ghost use mathlib.Core.Path.{_≡_};
-ghost use Rattle.page.specs.Answer.{pageCapacityAnswer, measuredCode};
+ghost use Rattle.page.specs.Answer.{
+  writeFirstAnswer,
+  writeFirstLeaves,
+  readFirstAnswer,
+  readFirstLeaves,
+  pageCapacityAnswer,
+  rewriteAnswer,
+  rewriteLeaves,
+  firstWrittenCode,
+  firstReadCode,
+  measuredCode,
+  rewrittenCode,
+};
+
+// What writing a first record gives.
+pub enum FirstWritten {
+    Done,
+    PageLength,
+    RecordLength,
+    NotBlank,
+}
+
+// What reading a first record gives.
+pub enum FirstRead {
+    Done,
+    PageLength,
+    State,
+    Header,
+    Word(u64),
+    OutputLength,
+}
 
 // What measuring a page gives.
 pub enum Measured {
@@ -18,16 +50,91 @@ pub enum Measured {
     Word(u64),
 }
 
-// The bits that a first-round page offers to a second record.
+// What rewriting a page gives.
+pub enum Rewritten {
+    Done,
+    PageLength,
+    State,
+    Header,
+    Word(u64),
+    TooLong(u64),
+}
+
+// Write first: turns a blank page into a first-round page that holds a record of 176 bytes.
+pub fn write_first(page: &mut [u8], first: &[u8]) -> FirstWritten
+    ensures answer { λ r. ⌜ firstWrittenCode r ≡ writeFirstAnswer (now (page .entry)) (now (first .entry)) ⌝ }
+    ensures bytes { λ _. ⌜ now (page .exit) ≡ writeFirstLeaves (now (page .entry)) (now (first .entry)) ⌝ }
+{
+    if page.len() != 256 {
+        return FirstWritten::PageLength;
+    }
+    if first.len() != 176 {
+        return FirstWritten::RecordLength;
+    }
+    if !words::zero_from(page, 0) {
+        return FirstWritten::NotBlank;
+    }
+    page[0] = 1;
+    first::write_words(page, first);
+    FirstWritten::Done
+}
+
+// Read first: puts the first record at the start of the output.
+pub fn read_first(page: &[u8], out: &mut [u8]) -> FirstRead
+    ensures answer { λ r. ⌜ firstReadCode r ≡ readFirstAnswer (now (page .entry)) (now (out .entry)) ⌝ }
+    ensures bytes { λ _. ⌜ now (out .exit) ≡ readFirstLeaves (now (page .entry)) (now (out .entry)) ⌝ }
+{
+    let c = check::check_first(page);
+    match c {
+        FirstCheck::Passed => {
+            if out.len() < 176 {
+                return FirstRead::OutputLength;
+            }
+            first::read_words(page, out);
+            FirstRead::Done
+        }
+        FirstCheck::PageLength => FirstRead::PageLength,
+        FirstCheck::State => FirstRead::State,
+        FirstCheck::Header => FirstRead::Header,
+        FirstCheck::Word(i) => FirstRead::Word(i),
+    }
+}
+
+// Page capacity: the bits that a first-round page offers to a second record.
 pub fn capacity(page: &[u8]) -> Measured
     ensures { λ r. ⌜ measuredCode r ≡ pageCapacityAnswer (now (page .entry)) ⌝ }
 {
     let c = check::check_first(page);
     match c {
-        check::FirstCheck::Passed => Measured::Capacity(words::capacity_of(page)),
-        check::FirstCheck::PageLength => Measured::PageLength,
-        check::FirstCheck::State => Measured::State,
-        check::FirstCheck::Header => Measured::Header,
-        check::FirstCheck::Word(i) => Measured::Word(i),
+        FirstCheck::Passed => Measured::Capacity(words::capacity_of(page)),
+        FirstCheck::PageLength => Measured::PageLength,
+        FirstCheck::State => Measured::State,
+        FirstCheck::Header => Measured::Header,
+        FirstCheck::Word(i) => Measured::Word(i),
+    }
+}
+
+// Rewrite: puts a second record over a first-round page. A record of any length is taken: the capacity is divided by 8, so that no length
+// is multiplied.
+pub fn rewrite(page: &mut [u8], second: &[u8]) -> Rewritten
+    ensures answer { λ r. ⌜ rewrittenCode r ≡ rewriteAnswer (now (page .entry)) (now (second .entry)) ⌝ }
+    ensures bytes { λ _. ⌜ now (page .exit) ≡ rewriteLeaves (now (page .entry)) (now (second .entry)) ⌝ }
+{
+    let c = check::check_first(page);
+    match c {
+        FirstCheck::Passed => {
+            let room = words::capacity_of(page);
+            if room / 8 < second.len() as u64 {
+                return Rewritten::TooLong(room);
+            }
+            page[0] = 7;
+            page[1] = second.len() as u8;
+            second::rewrite_words(page, second);
+            Rewritten::Done
+        }
+        FirstCheck::PageLength => Rewritten::PageLength,
+        FirstCheck::State => Rewritten::State,
+        FirstCheck::Header => Rewritten::Header,
+        FirstCheck::Word(i) => Rewritten::Word(i),
     }
 }
