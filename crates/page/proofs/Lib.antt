@@ -19,3 +19,4 @@ pub mod Cutting
 pub mod Rewriting
 pub mod Records
 pub mod Headers
+pub mod Gathering

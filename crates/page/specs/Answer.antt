@@ -19,6 +19,8 @@ use Rattle.page.specs.declared.FirstRead.{FirstRead}
 use Rattle.page.specs.declared.FirstRead.the-variants as firstRead
 use Rattle.page.specs.declared.Rewritten.{Rewritten}
 use Rattle.page.specs.declared.Rewritten.the-variants as rewritten
+use Rattle.page.specs.declared.SecondRead.{SecondRead}
+use Rattle.page.specs.declared.SecondRead.the-variants as secondRead
 use Rattle.page.specs.declared.Measured.{Measured}
 use Rattle.page.specs.declared.Measured.the-variants as measured
 
@@ -137,6 +139,15 @@ rewrittenCode rewritten.State = refusal 5 0
 rewrittenCode rewritten.Header = refusal 6 0
 rewrittenCode (rewritten.Word i) = refusal 7 i
 rewrittenCode (rewritten.TooLong capacity) = refusal 8 capacity
+
+abbrev pub secondReadCode : SecondRead → Answer
+secondReadCode (secondRead.Length n) = result n
+secondReadCode secondRead.PageLength = refusal 1 0
+secondReadCode secondRead.State = refusal 5 0
+secondReadCode secondRead.Header = refusal 6 0
+secondReadCode (secondRead.Word i) = refusal 7 i
+secondReadCode secondRead.DataCells = refusal 9 0
+secondReadCode secondRead.OutputLength = refusal 3 0
 
 -- the check that read first, page capacity and rewrite share
 abbrev pub firstCheckCode : FirstCheck → Answer

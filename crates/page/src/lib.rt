@@ -17,10 +17,13 @@ ghost use Rattle.page.specs.Answer.{
   pageCapacityAnswer,
   rewriteAnswer,
   rewriteLeaves,
+  readSecondAnswer,
+  readSecondLeaves,
   firstWrittenCode,
   firstReadCode,
   measuredCode,
   rewrittenCode,
+  secondReadCode,
 };
 
 // What writing a first record gives.
@@ -58,6 +61,17 @@ pub enum Rewritten {
     Header,
     Word(u64),
     TooLong(u64),
+}
+
+// What reading a second record gives.
+pub enum SecondRead {
+    Length(u64),
+    PageLength,
+    State,
+    Header,
+    Word(u64),
+    DataCells,
+    OutputLength,
 }
 
 // Write first: turns a blank page into a first-round page that holds a record of 176 bytes.
@@ -137,4 +151,41 @@ pub fn rewrite(page: &mut [u8], second: &[u8]) -> Rewritten
         FirstCheck::Header => Rewritten::Header,
         FirstCheck::Word(i) => Rewritten::Word(i),
     }
+}
+
+// Read second: puts the second record at the start of the output. Its bits are gathered aside, so that nothing is written before all is
+// known to be right.
+pub fn read_second(page: &[u8], out: &mut [u8]) -> SecondRead
+    ensures answer { λ r. ⌜ secondReadCode r ≡ readSecondAnswer (now (page .entry)) (now (out .entry)) ⌝ }
+    ensures bytes { λ _. ⌜ now (out .exit) ≡ readSecondLeaves (now (page .entry)) (now (out .entry)) ⌝ }
+{
+    if page.len() != 256 {
+        return SecondRead::PageLength;
+    }
+    if page[0] != 7 {
+        return SecondRead::State;
+    }
+    if 126 < page[1] {
+        return SecondRead::Header;
+    }
+    if page[2] != 0 {
+        return SecondRead::Header;
+    }
+    let mut buffer: [u8; 132] = [0; 132];
+    let found = second::gather(page, &mut buffer);
+    if found.words < 44 {
+        return SecondRead::Word(found.words as u64);
+    }
+    let n = page[1] as usize;
+    if found.cells < 8 * n {
+        return SecondRead::DataCells;
+    }
+    if !words::zero_from(&buffer, n) {
+        return SecondRead::DataCells;
+    }
+    if out.len() < n {
+        return SecondRead::OutputLength;
+    }
+    second::copy_start(out, &buffer, n);
+    SecondRead::Length(n as u64)
 }

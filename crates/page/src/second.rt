@@ -1,18 +1,23 @@
 // The second record: its bits put into the data cells of a page's words, and read from them.
 use cells::load_word;
+use cells::put_cells;
 use cells::store_word;
 use word::second::data_cells;
 use word::second::put_bits;
+use word::second::read_bits;
 use word::separators::fill_word;
+use word::separators::is_full;
+use word::separators::separators_of;
 ghost use mathlib.Core.Path.{_≡_};
 ghost use Prim.Native.Nat.{_^_, _+_, _≤_, _<_};
-ghost use lib.ListN.{length, drop, getD};
+ghost use lib.ListN.{length, take, drop, getD};
 ghost use Rattle.cells.specs.Cells.{number, cells};
 ghost use Rattle.cells.specs.Bytes.{bits};
-ghost use Rattle.cells.specs.Words.{pageWords, putWords};
+ghost use Rattle.cells.specs.Words.{pageWords, putCells, putWords};
 ghost use Rattle.word.specs.Word.{legal};
-ghost use Rattle.word.specs.Fill.{fit};
-ghost use Rattle.page.specs.Page.{lowest, fillAll, putAll};
+ghost use Rattle.word.specs.Fill.{fit, wellFormed};
+ghost use Rattle.page.specs.Page.{lowest, fillAll, readAll, putAll};
+ghost use Rattle.page.specs.Answer.{atStart};
 
 // Byte k of a record, 0 after its end.
 fn byte_or_zero(second: &[u8], k: usize) -> u64
@@ -57,5 +62,44 @@ pub fn rewrite_words(page: &mut [u8], second: &[u8])
         let count = data_cells(filled) as usize;
         store_word(page, i, put_bits(filled, bits_at(second, at, count)));
         at += count;
+    }
+}
+
+// The words of a page up to the first that is not well formed: their number, and that of their data cells.
+pub struct Gathered {
+    pub words: usize,
+    pub cells: usize,
+}
+
+// Puts what the data cells of a page's words hold into a buffer, word 0 first, up to the first word that is not well formed.
+pub fn gather(page: &[u8], buffer: &mut [u8]) -> Gathered
+    requires { ⌜ (length (now page) ≡ 256) × (length (now buffer) ≡ 132) ⌝ }
+    ensures words { λ r. ⌜ r .words ≡ lowest wellFormed (pageWords (now (page .entry)) 44) ⌝ }
+    ensures cells { λ r. ⌜ r .cells ≡ length (readAll (pageWords (now (page .entry)) (r .words))) ⌝ }
+    ensures bytes { λ r. ⌜ now (buffer .exit) ≡ putCells (now (buffer .entry)) 0 (readAll (pageWords (now (page .entry)) (r .words))) ⌝ }
+{
+    let mut at: usize = 0;
+    let mut i: usize = 0;
+    while i < 44 {
+        let word = load_word(page, i);
+        let separators = separators_of(word);
+        if !is_full(separators) {
+            return Gathered { words: i, cells: at };
+        }
+        let count = data_cells(separators) as usize;
+        put_cells(buffer, at, count, read_bits(word, separators));
+        at += count;
+        i += 1;
+    }
+    Gathered { words: i, cells: at }
+}
+
+// Puts the first n bytes of a buffer at the start of an output.
+pub fn copy_start(out: &mut [u8], buffer: &[u8], n: usize)
+    requires { ⌜ (n ≤ length (now out)) × (n ≤ length (now buffer)) ⌝ }
+    ensures { λ _. ⌜ now (out .exit) ≡ atStart (take n (now (buffer .entry))) (now (out .entry)) ⌝ }
+{
+    for j in 0..n {
+        out[j] = buffer[j];
     }
 }

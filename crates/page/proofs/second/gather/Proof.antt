@@ -1,0 +1,135 @@
+-- `page::second::gather` meets its contract: before word i the words before it are well formed, and their bits are in the buffer.
+-- Assumes nothing.
+use mathlib.Core.Path.{_≡_, sym, ap, _∙_, subst}
+use mathlib.Core.Bool.{true}
+use Prim.Native.Nat.{ℕ, _+_, _≤_, _-_}
+use native.Mathlib.Omega.{arith}
+use borrow.Author.Tests.{not-true, not-false}
+use lib.Dec.{T}
+use lib.ListN.{length}
+use Rattle.cells.specs.Cells.{cells}
+use Rattle.cells.specs.Words.{wordAt}
+use Rattle.word.specs.Fill.{full, wellFormed}
+use Rattle.word.proofs.Tests.{holds}
+use Rattle.page.proofs.Loaded.{loaded-lt}
+use Rattle.page.proofs.Scanning.{Passed, scan-failed, scan-passed}
+use Rattle.page.proofs.Gathering.{Separated, separated, read-fits, Gathering, gathering-start, gathering-length, gathering-turn}
+use Rattle.page.proofs.second.gather.Statement.{statement}
+use Rattle.page.proofs.second.gather.Tie as tie
+
+abbrev Inv-loop : tie.InvT-loop
+Inv-loop page buffer₀ at₀ i₀ buffer at i = (i ≤ 44) × (length buffer ≡ 132) × Gathering page buffer₀ buffer at i
+
+abbrev μ-loop : tie.MeasureT-loop
+μ-loop page buffer₀ at₀ i₀ buffer at i = 44 - i
+
+loop-holds : tie.Need-loop-holds Inv-loop μ-loop
+loop-holds c = (omega arith, c .before .before .pre .1, gathering-start _ _ (λ j. omega (arith, c .slice-known .given j)))
+
+load-word-requires : tie.Need-load-word-requires Inv-loop μ-loop
+load-word-requires c κs = omega arith
+
+separators-of-requires : tie.Need-separators-of-requires Inv-loop μ-loop
+separators-of-requires c κs = loaded-lt _ _ _ (omega arith) (c .load-word .ensures)
+
+word : (c : tie.After-separators-of Inv-loop μ-loop) →
+    Separated (c .before .before .before .before .before .before .args .page .now) (c .before .before .before .loop .i)
+    (c .before .load-word .result) (c .separators-of .result)
+word c = separated _ _ _ _ (omega arith) (c .before .load-word .ensures) (c .separators-of .ensures)
+
+is-full-requires : tie.Need-is-full-requires Inv-loop μ-loop
+is-full-requires c κs = word c .small
+
+same-length : tie.Need-same-length Inv-loop μ-loop
+same-length c = c .before .before .before .before .before .loop .inv .1 ∙ sym (c .before .before .before .before .before .before .before .before .pre .1)
+
+-- past the test word i is well formed
+full-word : (c : tie.Else1 Inv-loop μ-loop) → full (cells 46 (c .before .before .separators-of .result)) ≡ true
+full-word c = sym (c .before .is-full .ensures) ∙ not-false _ (c .if1 .left)
+
+formed : (c : tie.Else1 Inv-loop μ-loop) →
+    T (wellFormed (wordAt (c .before .before .before .before .before .before .before .before .args .page .now) (c .before .before .before .before .before .loop .i)))
+formed c = holds _ (sym (word (c .before .before) .tests) ∙ full-word c)
+
+returns : tie.Need-returns Inv-loop μ-loop
+returns c =
+    let l = c .before .before .before .before .before in
+    let g = l .loop .inv .2 in
+    (sym (scan-failed wellFormed _ 44 _ (omega arith) (g .formed) (sym (word (c .before .before) .tests) ∙ sym (c .before .is-full .ensures) ∙ not-true _ (c .if1 .taken))),
+    (g .counted, g .held))
+
+data-cells-requires : tie.Need-data-cells-requires Inv-loop μ-loop
+data-cells-requires c κs = let w = word (c .before .before) in (w .small, w .apart)
+
+read-bits-requires : tie.Need-read-bits-requires Inv-loop μ-loop
+read-bits-requires c κs = let s = c .before .before .before .before in (loaded-lt _ _ _ (omega arith) (s .before .load-word .ensures), s .separators-of .ensures)
+
+put-cells-requires : tie.Need-put-cells-requires Inv-loop μ-loop
+put-cells-requires c κs =
+    let count = c .before .before in
+    let passed = count .before in
+    let w = word (passed .before .before) in
+    let l = passed .before .before .before .before .before in
+    let n = count .data-cells .ensures in (
+      omega (arith, l .loop .inv .2 .few),
+      omega (arith, n, w .count, w .some (formed passed)),
+      omega (arith, n, w .count, w .most),
+      read-fits _ _ _ _ _ _ w n (c .read-bits .ensures),
+    )
+
+turned : (c : tie.After-put-cells Inv-loop μ-loop) →
+    let l = c .before .before .before .before .before .before .before .before .before in
+    let a = l .before .before .before .args in
+    Gathering (a .page .now) (a .buffer .now) (c .put-cells .last .0) (l .loop .at + c .before .before .before .data-cells .result) (l .loop .i + 1)
+turned c =
+    let count = c .before .before .before in
+    let passed = count .before in
+    let l = passed .before .before .before .before .before in
+    gathering-turn _ _ _ _ _ _ _ _ _ _ (l .loop .inv .2) (omega (arith, l .before .before .before .pre .1)) (word (passed .before .before))
+    (full-word passed) (count .data-cells .ensures) (c .before .read-bits .ensures) (c .put-cells .ensures)
+
+add-at : tie.Need-add-at Inv-loop μ-loop
+add-at c = omega (arith, turned (c .before .before) .few)
+
+add-i : tie.Need-add-i Inv-loop μ-loop
+add-i c = omega arith
+
+loop-less : tie.Need-loop-less Inv-loop μ-loop
+loop-less c = omega arith
+
+loop-again : tie.Need-loop-again Inv-loop μ-loop
+loop-again c =
+    let t = turned (c .before .before) in
+    let a = c .before .before .before .before .before .before .before .before .before .before .before .before .before .before in
+    (omega arith, gathering-length _ _ _ _ _ t ∙ a .pre .1, t)
+
+same-length-2 : tie.Need-same-length-2 Inv-loop μ-loop
+same-length-2 c = c .before .loop .inv .1 ∙ sym (c .before .before .before .before .pre .1)
+
+returns-2 : tie.Need-returns-2 Inv-loop μ-loop
+returns-2 c =
+    let e : c .before .loop .i ≡ 44 = omega arith in
+    let g = c .before .loop .inv .2 in
+    (e ∙ sym (scan-passed wellFormed _ 44 (subst (Passed wellFormed (c .before .before .before .before .args .page .now)) e (g .formed))), (g .counted, g .held))
+
+pub gather-spec : {M : Type 1} → statement M
+gather-spec =
+    tie.close
+    (tie.spec
+    Inv-loop
+    μ-loop
+    loop-holds
+    load-word-requires
+    separators-of-requires
+    is-full-requires
+    same-length
+    returns
+    data-cells-requires
+    read-bits-requires
+    put-cells-requires
+    add-at
+    add-i
+    loop-less
+    loop-again
+    same-length-2
+    returns-2)
