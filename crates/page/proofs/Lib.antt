@@ -20,3 +20,5 @@ pub mod Rewriting
 pub mod Records
 pub mod Headers
 pub mod Gathering
+pub mod Buffers
+pub mod SecondChecks

@@ -1,99 +1,123 @@
+-- `page::read_second` meets its contract: each test answers as the definition does, in its order, and the record is copied from what was
+-- gathered. Assumes nothing.
+use mathlib.Core.Path.{_≡_, sym, ap, _∙_, subst}
+use mathlib.Core.List.{List}
+use Prim.Native.Nat.{ℕ}
+use native.Mathlib.Omega.{arith}
 use borrow.Author.Needs.{needs}
+use lib.ListN.{length, replicate}
+use Rattle.cells.specs.Words.{pageWords, putCells}
+use Rattle.cells.proofs.Words.{length-pageWords}
+use Rattle.word.specs.Fill.{wellFormed}
+use Rattle.page.specs.Page.{readAll, secondRecord}
+use Rattle.page.specs.Answer.{atStart}
+use Rattle.page.proofs.Lowest.{lowest-le}
+use Rattle.page.proofs.Headers.{both-refused, both-done}
+use Rattle.page.proofs.Buffers.{buffer-record}
+use Rattle.page.proofs.SecondChecks.{Found, all-found, second-length, second-state, second-byte1, second-byte2, second-word, second-few, second-spare, second-output, second-done, second-record}
 use Rattle.page.proofs.read_second.Statement.{statement}
 use Rattle.page.proofs.read_second.Tie as tie
-use Rattle.page.proofs.read_second.Reads as reads
-use Rattle.page.proofs.read_second.Lts as lts
-use Rattle.page.proofs.second.copy_start.Reads as copy-start-reads
-use Rattle.page.proofs.second.gather.Reads as gather-reads
-use Rattle.page.proofs.words.zero_from.Reads as zero-from-reads
 
--- src/lib.rt:163:9
 returns : tie.Need-returns
-returns c = ?
+returns c = both-refused _ _ _ _ _ (second-length _ _ (c .if1 .taken))
 
--- src/lib.rt:165:8
 shared-slice-read-if2 : tie.Need-shared-slice-read-if2
 shared-slice-read-if2 c = search needs
 
--- src/lib.rt:166:9
 returns-2 : tie.Need-returns-2
-returns-2 c = ?
+returns-2 c = both-refused _ _ _ _ _ (second-state _ _ (omega arith) (c .if2 .taken))
 
--- src/lib.rt:168:14
 shared-slice-read-if3 : tie.Need-shared-slice-read-if3
 shared-slice-read-if3 c = search needs
 
--- src/lib.rt:169:9
 returns-3 : tie.Need-returns-3
-returns-3 c = ?
+returns-3 c = both-refused _ _ _ _ _ (second-byte1 _ _ (omega arith) (c .before .before .if2 .left) (c .if3 .taken))
 
--- src/lib.rt:171:8
 shared-slice-read-if4 : tie.Need-shared-slice-read-if4
 shared-slice-read-if4 c = search needs
 
--- src/lib.rt:172:9
 returns-4 : tie.Need-returns-4
-returns-4 c = ?
+returns-4 c = both-refused _ _ _ _ _ (second-byte2 _ _ (omega arith) (c .before .before .before .before .if2 .left) (c .if4 .taken))
 
--- src/lib.rt:175:38
 slice-aggregate-gather : tie.Need-slice-aggregate-gather
 slice-aggregate-gather c = search needs
 
--- src/lib.rt:175:9
 gather-requires : tie.Need-gather-requires
 gather-requires c κs = search needs
 
--- src/lib.rt:177:9
 returns-5 : tie.Need-returns-5
-returns-5 c = ?
+returns-5 c =
+    let found = c .before .before .before in
+    let e4 = found .before .before in
+    let e3 = e4 .before .before in
+    let e2 = e3 .before .before in
+    both-refused _ _ _ _ _
+    (second-word _ _ (omega arith) (e2 .if2 .left) (e3 .if3 .left) (e4 .if4 .left) _ (found .gather .ensures .0) (c .if5 .taken))
 
--- src/lib.rt:179:13
+-- all words are well formed, and their bits are in the buffer
+all : (c : tie.Else5) →
+    let found = c .before .before .before in
+    Found (found .before .before .before .before .before .before .before .before .before .before .before .args .page .now)
+    (found .gather .last .1 .0) (found .gather .result .cells)
+all c =
+    let found = c .before .before .before in
+    let e4 = found .before .before in
+    let e3 = e4 .before .before in
+    let e2 = e3 .before .before in
+    let g = found .gather .ensures in
+    all-found _ _ _ _ (omega arith) (e2 .if2 .left) (e3 .if3 .left) (e4 .if4 .left) (g .0) (c .if5 .left) (g .1 .0) (g .1 .1)
+
 shared-slice-read-n : tie.Need-shared-slice-read-n
 shared-slice-read-n c = search needs
 
--- src/lib.rt:179:13
 cast-n : tie.Need-cast-n
 cast-n c = search needs
 
--- src/lib.rt:180:22
 mul-if6 : tie.Need-mul-if6
 mul-if6 c = search needs
 
--- src/lib.rt:181:9
 returns-6 : tie.Need-returns-6
-returns-6 c = ?
+returns-6 c = both-refused _ _ _ _ _ (second-few _ _ _ _ (all (c .before .before .before)) (c .if6 .taken))
 
--- src/lib.rt:183:26
 slice-aggregate-zero-from : tie.Need-slice-aggregate-zero-from
 slice-aggregate-zero-from c = search needs
 
--- src/lib.rt:183:9
 zero-from-requires : tie.Need-zero-from-requires
 zero-from-requires c κs = search needs
 
--- src/lib.rt:184:9
 returns-7 : tie.Need-returns-7
-returns-7 c = ?
+returns-7 c =
+    let enough = c .before .before .before in
+    both-refused _ _ _ _ _ (second-spare _ _ _ _ (all (enough .before .before .before)) _ (c .before .zero-from .ensures) (c .if7 .taken))
 
--- src/lib.rt:187:9
 returns-8 : tie.Need-returns-8
-returns-8 c = ?
+returns-8 c =
+    let clean = c .before in
+    let enough = clean .before .before .before in
+    both-refused _ _ _ _ _
+    (second-output _ _ _ _ (all (enough .before .before .before)) _ (clean .before .zero-from .ensures) (enough .if6 .left) (clean .if7 .left) (c .if8 .taken))
 
--- src/lib.rt:189:29
 slice-aggregate-copy-start : tie.Need-slice-aggregate-copy-start
 slice-aggregate-copy-start c = search needs
 
--- src/lib.rt:189:5
 copy-start-requires : tie.Need-copy-start-requires
 copy-start-requires c κs = search needs
 
--- src/lib.rt:158:1
 same-length : tie.Need-same-length
 same-length c = search needs
 
--- src/lib.rt:158:1
 returns-9 : tie.Need-returns-9
-returns-9 c = ?
+returns-9 c =
+    let copy = c .before .before in
+    let roomy = copy .before .before .before in
+    let clean = roomy .before in
+    let enough = clean .before .before .before in
+    let five = enough .before .before .before in
+    let f = all five in
+    let a = five .before .before .before .before .before .before .before .before .before .before .before .before .before .before .args in
+    both-done _ _ _ _ _
+    (second-done _ _ _ _ f _ (clean .before .zero-from .ensures) (enough .if6 .left) (clean .if7 .left) (roomy .if8 .left))
+    (copy .copy-start .ensures ∙ ap (λ (l : List ℕ). atStart l (a .out .now)) (second-record _ _ _ f (enough .if6 .left)))
 
 pub read-second-spec : {M : Type 1} → statement M
 read-second-spec =
