@@ -10,7 +10,7 @@ pub enum FirstCheck {
     PageLength,
     State,
     Header,
-    Word(u64),
+    Word(u32),
 }
 
 pub fn check_first(page: &[u8]) -> FirstCheck
@@ -30,7 +30,7 @@ pub fn check_first(page: &[u8]) -> FirstCheck
     }
     let i = first_illegal(page);
     if i < 44 {
-        return FirstCheck::Word(i as u64);
+        return FirstCheck::Word(i as u32);
     }
     FirstCheck::Passed
 }

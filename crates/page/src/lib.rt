@@ -40,17 +40,17 @@ pub enum FirstRead {
     PageLength,
     State,
     Header,
-    Word(u64),
+    Word(u32),
     OutputLength,
 }
 
 // What measuring a page gives.
 pub enum Measured {
-    Capacity(u64),
+    Capacity(u32),
     PageLength,
     State,
     Header,
-    Word(u64),
+    Word(u32),
 }
 
 // What rewriting a page gives.
@@ -59,17 +59,17 @@ pub enum Rewritten {
     PageLength,
     State,
     Header,
-    Word(u64),
-    TooLong(u64),
+    Word(u32),
+    TooLong(u32),
 }
 
 // What reading a second record gives.
 pub enum SecondRead {
-    Length(u64),
+    Length(u32),
     PageLength,
     State,
     Header,
-    Word(u64),
+    Word(u32),
     DataCells,
     OutputLength,
 }
@@ -138,7 +138,7 @@ pub fn rewrite(page: &mut [u8], second: &[u8]) -> Rewritten
     match c {
         FirstCheck::Passed => {
             let room = words::capacity_of(page);
-            if room / 8 < second.len() as u64 {
+            if ((room / 8) as usize) < second.len() {
                 return Rewritten::TooLong(room);
             }
             page[0] = 7;
@@ -174,7 +174,7 @@ pub fn read_second(page: &[u8], out: &mut [u8]) -> SecondRead
     let mut buffer: [u8; 132] = [0; 132];
     let found = second::gather(page, &mut buffer);
     if found.words < 44 {
-        return SecondRead::Word(found.words as u64);
+        return SecondRead::Word(found.words as u32);
     }
     let n = page[1] as usize;
     if found.cells < 8 * n {
@@ -187,5 +187,5 @@ pub fn read_second(page: &[u8], out: &mut [u8]) -> SecondRead
         return SecondRead::OutputLength;
     }
     second::copy_start(out, &buffer, n);
-    SecondRead::Length(n as u64)
+    SecondRead::Length(n as u32)
 }

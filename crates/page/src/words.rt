@@ -38,13 +38,13 @@ pub fn first_illegal(page: &[u8]) -> usize
 }
 
 // The sum of the capacities of a page's words.
-pub fn capacity_of(page: &[u8]) -> u64
+pub fn capacity_of(page: &[u8]) -> u32
     requires { ⌜ (length (now page) ≡ 256) × (lowest legal (pageWords (now page) 44) ≡ 44) ⌝ }
     ensures { λ r. ⌜ r ≡ capacityAll (pageWords (now (page .entry)) 44) ⌝ }
 {
-    let mut total: u64 = 0;
+    let mut total: u32 = 0;
     for i in 0..44 {
-        total += data_cells(fill_word(load_word(page, i)));
+        total += data_cells(fill_word(load_word(page, i))) as u32;
     }
     total
 }

@@ -45,14 +45,18 @@ slice-aggregate-gather c = search needs
 gather-requires : tie.Need-gather-requires
 gather-requires c κs = search needs
 
+cast-t14 : tie.Need-cast-t14
+cast-t14 c = search needs
+
 returns-5 : tie.Need-returns-5
 returns-5 c =
-    let found = c .before .before .before in
+    let small = c .before in
+    let found = small .before .before .before in
     let e4 = found .before .before in
     let e3 = e4 .before .before in
     let e2 = e3 .before .before in
     both-refused _ _ _ _ _
-    (second-word _ _ (omega arith) (e2 .if2 .left) (e3 .if3 .left) (e4 .if4 .left) _ (found .gather .ensures .0) (c .if5 .taken))
+    (second-word _ _ (omega arith) (e2 .if2 .left) (e3 .if3 .left) (e4 .if4 .left) _ (found .gather .ensures .0) (small .if5 .taken))
 
 -- all words are well formed, and their bits are in the buffer
 all : (c : tie.Else5) →
@@ -103,6 +107,9 @@ slice-aggregate-copy-start c = search needs
 copy-start-requires : tie.Need-copy-start-requires
 copy-start-requires c κs = search needs
 
+cast-t24 : tie.Need-cast-t24
+cast-t24 c = search needs
+
 same-length : tie.Need-same-length
 same-length c = search needs
 
@@ -132,6 +139,7 @@ read-second-spec =
     returns-4
     slice-aggregate-gather
     gather-requires
+    cast-t14
     returns-5
     shared-slice-read-n
     cast-n
@@ -143,5 +151,6 @@ read-second-spec =
     returns-8
     slice-aggregate-copy-start
     copy-start-requires
+    cast-t24
     same-length
     returns-9)

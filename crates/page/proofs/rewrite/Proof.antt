@@ -25,6 +25,9 @@ passed c = checked _ _ (sym (ap firstCheckCode (c .enum-told .given .1)) ∙ c .
 capacity-of-requires : tie.Need-capacity-of-requires
 capacity-of-requires c κs = let p = passed (c .before) in (p .sized, p .legal-words)
 
+cast-if1 : tie.Need-cast-if1
+cast-if1 c = search needs
+
 same-length : tie.Need-same-length
 same-length c = search needs
 
@@ -109,6 +112,7 @@ rewrite-spec =
     check-first-requires
     enum-told
     capacity-of-requires
+    cast-if1
     same-length
     returns
     slice-write-page

@@ -32,6 +32,9 @@ returns-4 c = sym (byte2-refused _ _ (omega arith) (c .before .before .before .b
 first-illegal-requires : tie.Need-first-illegal-requires
 first-illegal-requires c κs = search needs
 
+cast-t9 : tie.Need-cast-t9
+cast-t9 c = search needs
+
 returns-5 : tie.Need-returns-5
 returns-5 c =
     let e4 = c .before .before in
@@ -60,5 +63,6 @@ check-first-spec =
     shared-slice-read-if4
     returns-4
     first-illegal-requires
+    cast-t9
     returns-5
     returns-6)
