@@ -1,11 +1,32 @@
 // The entry points for C, thin: each calls one operation and packs its answer. include/wom.h declares them.
 //
-// Bits 56 to 63 of an answer are the refusal's number, 0 for none; bits 0 to 55 are the result, or the refusal's index, which no word
-// operation has. Every entry is defined for every argument.
+// Bits 56 to 63 of an answer are the refusal's number, 0 for none; bits 0 to 55 are the result, or the refusal's index: the word's for 7,
+// the capacity for 8, else 0. Every entry is defined for every argument.
+use page::FirstRead;
+use page::FirstWritten;
+use page::Rewritten;
+use page::SecondRead;
 use word::Decoded;
 use word::Filled;
 use word::Measured;
 ghost use mathlib.Core.Path.{_≡_};
+ghost use Prim.Native.Nat.{_<_};
+ghost use Rattle.page.specs.Answer.{
+  writeFirstAnswer,
+  writeFirstLeaves,
+  readFirstAnswer,
+  readFirstLeaves,
+  pageCapacityAnswer,
+  rewriteAnswer,
+  rewriteLeaves,
+  readSecondAnswer,
+  readSecondLeaves,
+  firstWrittenCode,
+  firstReadCode,
+  rewrittenCode,
+  secondReadCode,
+};
+ghost use Rattle.page.specs.Answer as pages;
 ghost use Rattle.word.specs.Answer.{
   encodeAnswer,
   decodeAnswer,
@@ -14,8 +35,23 @@ ghost use Rattle.word.specs.Answer.{
   decodedCode,
   filledCode,
   measuredCode,
+  refusal,
 };
 ghost use Rattle.wom.specs.Packed.{packed};
+
+const PAGE_LENGTH: u64 = 1 << 56;
+
+const DATA_LENGTH: u64 = 2 << 56;
+
+const OUTPUT_LENGTH: u64 = 3 << 56;
+
+const NOT_BLANK: u64 = 4 << 56;
+
+const STATE: u64 = 5 << 56;
+
+const HEADER: u64 = 6 << 56;
+
+const DATA_CELLS: u64 = 9 << 56;
 
 const HIGH_BIT: u64 = 10 << 56;
 
@@ -86,4 +122,119 @@ pub extern "C" fn wom_word_capacity(word: u64) -> u64
     ensures { λ r. ⌜ r ≡ packed (capacityAnswer word) ⌝ }
 {
     pack_measured(word::capacity(word))
+}
+
+// A refusal that carries an index.
+fn with_index(number: u64, index: u32) -> u64
+    requires { ⌜ number < 256 ⌝ }
+    ensures { λ r. ⌜ r ≡ packed (refusal number index) ⌝ }
+{
+    (number << 56) + index as u64
+}
+
+fn pack_first_written(w: FirstWritten) -> u64
+    ensures { λ r. ⌜ r ≡ packed (firstWrittenCode w) ⌝ }
+{
+    match w {
+        FirstWritten::Done => 0,
+        FirstWritten::PageLength => PAGE_LENGTH,
+        FirstWritten::RecordLength => DATA_LENGTH,
+        FirstWritten::NotBlank => NOT_BLANK,
+    }
+}
+
+// Write first: 0, or 1, 2 or 4.
+#[no_mangle]
+pub extern "C" fn wom_write_first(page: &mut [u8], first: &[u8]) -> u64
+    ensures answer { λ r. ⌜ r ≡ packed (writeFirstAnswer (now (page .entry)) (now (first .entry))) ⌝ }
+    ensures bytes { λ _. ⌜ now (page .exit) ≡ writeFirstLeaves (now (page .entry)) (now (first .entry)) ⌝ }
+{
+    pack_first_written(page::write_first(page, first))
+}
+
+fn pack_first_read(f: FirstRead) -> u64
+    ensures { λ r. ⌜ r ≡ packed (firstReadCode f) ⌝ }
+{
+    match f {
+        FirstRead::Done => 0,
+        FirstRead::PageLength => PAGE_LENGTH,
+        FirstRead::State => STATE,
+        FirstRead::Header => HEADER,
+        FirstRead::Word(i) => with_index(7, i),
+        FirstRead::OutputLength => OUTPUT_LENGTH,
+    }
+}
+
+// Read first: 0, or 1, 5, 6, 7 with the word's index, or 3.
+#[no_mangle]
+pub extern "C" fn wom_read_first(page: &[u8], out: &mut [u8]) -> u64
+    ensures answer { λ r. ⌜ r ≡ packed (readFirstAnswer (now (page .entry)) (now (out .entry))) ⌝ }
+    ensures bytes { λ _. ⌜ now (out .exit) ≡ readFirstLeaves (now (page .entry)) (now (out .entry)) ⌝ }
+{
+    pack_first_read(page::read_first(page, out))
+}
+
+fn pack_page_measured(m: page::Measured) -> u64
+    ensures { λ r. ⌜ r ≡ packed (pages.measuredCode m) ⌝ }
+{
+    match m {
+        page::Measured::Capacity(n) => n as u64,
+        page::Measured::PageLength => PAGE_LENGTH,
+        page::Measured::State => STATE,
+        page::Measured::Header => HEADER,
+        page::Measured::Word(i) => with_index(7, i),
+    }
+}
+
+// Page capacity: the bits that a first-round page offers, or 1, 5, 6, or 7 with the word's index.
+#[no_mangle]
+pub extern "C" fn wom_page_capacity(page: &[u8]) -> u64
+    ensures { λ r. ⌜ r ≡ packed (pageCapacityAnswer (now (page .entry))) ⌝ }
+{
+    pack_page_measured(page::capacity(page))
+}
+
+fn pack_rewritten(w: Rewritten) -> u64
+    ensures { λ r. ⌜ r ≡ packed (rewrittenCode w) ⌝ }
+{
+    match w {
+        Rewritten::Done => 0,
+        Rewritten::PageLength => PAGE_LENGTH,
+        Rewritten::State => STATE,
+        Rewritten::Header => HEADER,
+        Rewritten::Word(i) => with_index(7, i),
+        Rewritten::TooLong(n) => with_index(8, n),
+    }
+}
+
+// Rewrite: 0, or 1, 5, 6, 7 with the word's index, or 8 with the page's capacity.
+#[no_mangle]
+pub extern "C" fn wom_rewrite(page: &mut [u8], second: &[u8]) -> u64
+    ensures answer { λ r. ⌜ r ≡ packed (rewriteAnswer (now (page .entry)) (now (second .entry))) ⌝ }
+    ensures bytes { λ _. ⌜ now (page .exit) ≡ rewriteLeaves (now (page .entry)) (now (second .entry)) ⌝ }
+{
+    pack_rewritten(page::rewrite(page, second))
+}
+
+fn pack_second_read(s: SecondRead) -> u64
+    ensures { λ r. ⌜ r ≡ packed (secondReadCode s) ⌝ }
+{
+    match s {
+        SecondRead::Length(n) => n as u64,
+        SecondRead::PageLength => PAGE_LENGTH,
+        SecondRead::State => STATE,
+        SecondRead::Header => HEADER,
+        SecondRead::Word(i) => with_index(7, i),
+        SecondRead::DataCells => DATA_CELLS,
+        SecondRead::OutputLength => OUTPUT_LENGTH,
+    }
+}
+
+// Read second: the record's length, or 1, 5, 6, 7 with the word's index, 9 or 3.
+#[no_mangle]
+pub extern "C" fn wom_read_second(page: &[u8], out: &mut [u8]) -> u64
+    ensures answer { λ r. ⌜ r ≡ packed (readSecondAnswer (now (page .entry)) (now (out .entry))) ⌝ }
+    ensures bytes { λ _. ⌜ now (out .exit) ≡ readSecondLeaves (now (page .entry)) (now (out .entry)) ⌝ }
+{
+    pack_second_read(page::read_second(page, out))
 }
