@@ -20,5 +20,6 @@ pub mod Rewriting
 pub mod Records
 pub mod Headers
 pub mod Gathering
+pub mod Copying
 pub mod Buffers
 pub mod SecondChecks

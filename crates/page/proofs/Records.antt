@@ -66,7 +66,7 @@ writing-turn page₀ bs page next i x v h r ex ev en =
 -- ---- reading
 
 -- more bytes put right after those at the start of an output
-atStart-more : (a s out : List ℕ) → paste (atStart a out) (length a) s (length s) ≡ atStart (a ++ s) out
+pub atStart-more : (a s out : List ℕ) → paste (atStart a out) (length a) s (length s) ≡ atStart (a ++ s) out
 unfolding atStart
 atStart-more a s out =
     let k : length a + length s ≡ length (a ++ s) = sym (length-append a s) in
