@@ -1,72 +1,91 @@
--- Demand 1: each operation accepts exactly what the rules describe, the index of refusal 7 is the lowest, and a refused call writes
--- nothing.
+-- Each operation accepts exactly what the rules describe, and what an answer leaves in a buffer. Demand 1's parts.
 -- Assumes nothing.
-use mathlib.Core.Bool.{not}
-use mathlib.Core.List.{List}
+use mathlib.Core.Bool.{Bool, true, not}
+use mathlib.Core.List.{List, [], _∷_, _++_}
 use mathlib.Core.Logic.{_↔_}
-use mathlib.Core.Path.{_≡_, sym, ap, _∙_}
-use Prim.Native.Nat.{ℕ, _*_, _≤_}
+use mathlib.Core.Path.{_≡_, refl, sym, ap, ap₂, _∙_}
+use Prim.Native.Nat.{ℕ, zero, suc, _*_, _≤_}
 use borrow.Author.Tests.{not-false}
-use lib.ListN.{length}
+use lib.Dec.{T, eqb, eqb→eq}
+use lib.ListN.{length, drop, length-replicate}
+use mir.Facts.{and-yes}
 use Rattle.cells.specs.Bytes.{Bytes}
 use Rattle.cells.specs.Words.{pageWords}
 use Rattle.word.specs.Answer.{Answer, result, refusal}
 use Rattle.word.proofs.Tests.{holds}
-use Rattle.page.specs.Page.{byte1, zeros, blankOf, firstRecord, firstPage, capacityAll, outcomeOf, secondRecord}
-use Rattle.page.specs.Answer.{after, atStart, writeFirstAnswer, readFirstAnswer, pageCapacityAnswer, rewriteAnswer, readSecondAnswer}
-use Rattle.page.specs.Demands.{blank, FirstRound, SecondRound, Fits, dataCells, Demand1}
-use Rattle.page.proofs.Lowest.{passed-before, failed-there}
-use Rattle.page.proofs.Rounds.{behind, behind-equal, behind-long, long-taken, first-taken, behind-first, second-taken, behind-second}
-use Rattle.page.proofs.Capacities.{capacity-counts-all}
-use Rattle.page.proofs.FirstPages.{blank-zeros, written}
+use Rattle.page.specs.Page.{byte1, zeros, blankOf, capacityAll}
+use Rattle.page.specs.Answer.{after, atStart, refuse, writeFirstAnswer, readFirstAnswer, pageCapacityAnswer, rewriteAnswer, readSecondAnswer}
+use Rattle.page.specs.Demands.{blank, FirstRound, SecondRound, Fits, dataCells}
+use Rattle.page.proofs.Rounds.{behind, equal-taken, behind-equal, behind-long, long-taken, first-taken, behind-first, second-taken, behind-second}
+use Rattle.page.proofs.SecondWords.{capacity-count}
+
+-- ---- a blank page
+
+zeros-blank : (n : ℕ) → zeros (blankOf n) ≡ true
+unfolding blankOf zeros
+zeros-blank zero = refl
+zeros-blank (suc n) = zeros-blank n
+
+-- only a blank page has bytes of 0 only
+blank-zeros : (P : List ℕ) → T (zeros P) → P ≡ blankOf (length P)
+unfolding blankOf zeros
+blank-zeros [] h = refl
+blank-zeros (b ∷ P) h =
+    let p = and-yes (eqb b 0) (zeros P) h in
+    ap₂ (λ (x : ℕ) (l : List ℕ). x ∷ l) (eqb→eq b 0 (p .0)) (blank-zeros P (p .1))
 
 -- ---- "accepts exactly"
-
-write-first : (P D : List ℕ) → (writeFirstAnswer P D ≡ result 0) ↔ ((P ≡ blank) × (length D ≡ 176))
-unfolding writeFirstAnswer
-write-first P D = (
-  λ e.
-      let p1 = behind-equal (length P) 256 1 0 0 _ e in
-      let p2 = behind-equal (length D) 176 2 0 0 _ (p1 .1) in
-      let p4 = behind (not (zeros P)) 4 0 0 (result 0) (p2 .1) in
-      (blank-zeros P (holds (zeros P) (not-false (zeros P) (p4 .0))) ∙ ap blankOf (p1 .0), p2 .0),
-  λ h. ap (λ (Q : List ℕ). writeFirstAnswer Q D) (h .0) ∙ written D (h .1),
-)
-
-read-first : (P out : List ℕ) → Bytes P → (readFirstAnswer P out ≡ result 0) ↔ (FirstRound P × (176 ≤ length out))
-unfolding readFirstAnswer
-read-first P out b = (
-  λ e.
-      let p = behind-first P 0 _ b e in
-      (p .0, behind-long (length out) 176 3 0 0 (result 0) (p .1) .0),
-  λ h. first-taken P _ (h .0) ∙ long-taken (length out) 176 3 0 (result 0) (h .1),
-)
 
 same-result : (x y : ℕ) → result x ≡ result y → y ≡ x
 same-result x y e = cc
 
-page-capacity : (P : List ℕ) (c : ℕ) → Bytes P → (pageCapacityAnswer P ≡ result c) ↔ (FirstRound P × (c ≡ dataCells P))
+pub write-first : (P D : List ℕ) (v : ℕ) → (writeFirstAnswer P D ≡ result v) ↔ ((P ≡ blank) × (length D ≡ 176) × (v ≡ 0))
+unfolding writeFirstAnswer
+write-first P D v = (
+  λ e.
+      let p1 = behind-equal (length P) 256 1 0 v _ e in
+      let p2 = behind-equal (length D) 176 2 0 v _ (p1 .1) in
+      let p4 = behind (not (zeros P)) 4 0 v (result 0) (p2 .1) in
+      (blank-zeros P (holds (zeros P) (not-false (zeros P) (p4 .0))) ∙ ap blankOf (p1 .0), p2 .0, same-result 0 v (p4 .1)),
+  λ h.
+      equal-taken 1 0 _ (ap length (h .0) ∙ unfold blankOf in length-replicate {A = ℕ} 256 0)
+      ∙ equal-taken 2 0 _ (h .1)
+      ∙ ap (λ (t : Bool). refuse (not t) 4 0 (result 0)) (ap zeros (h .0) ∙ zeros-blank 256) ∙ ap result (sym (h .2)),
+)
+
+pub read-first : (P out : List ℕ) (v : ℕ) → Bytes P → (readFirstAnswer P out ≡ result v) ↔ (FirstRound P × (176 ≤ length out) × (v ≡ 0))
+unfolding readFirstAnswer
+read-first P out v b = (
+  λ e.
+      let p = behind-first P v _ b e in
+      let q = behind-long (length out) 176 3 0 v (result 0) (p .1) in
+      (p .0, q .0, same-result 0 v (q .1)),
+  λ h. first-taken P _ (h .0) ∙ long-taken (length out) 176 3 0 (result 0) (h .1) ∙ ap result (sym (h .2)),
+)
+
+pub page-capacity : (P : List ℕ) (c : ℕ) → Bytes P → (pageCapacityAnswer P ≡ result c) ↔ (FirstRound P × (c ≡ dataCells P))
 unfolding pageCapacityAnswer
 page-capacity P c b = (
   λ e.
       let p = behind-first P c _ b e in
-      (p .0, same-result (capacityAll (pageWords P 44)) c (p .1) ∙ capacity-counts-all (pageWords P 44)),
-  λ h. first-taken P _ (h .0) ∙ ap result (capacity-counts-all (pageWords P 44) ∙ sym (h .1)),
+      (p .0, same-result (capacityAll (pageWords P 44)) c (p .1) ∙ capacity-count (pageWords P 44)),
+  λ h. first-taken P _ (h .0) ∙ ap result (capacity-count (pageWords P 44) ∙ sym (h .1)),
 )
 
-rewrite : (P R : List ℕ) → Bytes P → Bytes R → (rewriteAnswer P R ≡ result 0) ↔ (FirstRound P × Fits R P)
+pub rewrite : (P R : List ℕ) (v : ℕ) → Bytes P → Bytes R → (rewriteAnswer P R ≡ result v) ↔ (FirstRound P × Fits R P × (v ≡ 0))
 unfolding rewriteAnswer
-rewrite P R b r = (
+rewrite P R v b r = (
   λ e.
-      let p = behind-first P 0 _ b e in
-      let q = behind-long (capacityAll (pageWords P 44)) (8 * length R) 8 (capacityAll (pageWords P 44)) 0 (result 0) (p .1) in
-      (p .0, record { of-bytes = r; room = q .0 }),
+      let p = behind-first P v _ b e in
+      let q = behind-long (capacityAll (pageWords P 44)) (8 * length R) 8 (capacityAll (pageWords P 44)) v (result 0) (p .1) in
+      (p .0, record { of-bytes = r; room = q .0 }, same-result 0 v (q .1)),
   λ h.
       first-taken P _ (h .0)
-      ∙ long-taken (capacityAll (pageWords P 44)) (8 * length R) 8 (capacityAll (pageWords P 44)) (result 0) (h .1 .room),
+      ∙ long-taken (capacityAll (pageWords P 44)) (8 * length R) 8 (capacityAll (pageWords P 44)) (result 0) (h .1 .room) ∙ ap result (sym (h .2)),
 )
 
-read-second : (P out : List ℕ) (n : ℕ) → Bytes P → (readSecondAnswer P out ≡ result n) ↔ (SecondRound P × (n ≡ byte1 P) × (n ≤ length out))
+pub read-second : (P out : List ℕ) (n : ℕ) → Bytes P
+    → (readSecondAnswer P out ≡ result n) ↔ (SecondRound P × (n ≡ byte1 P) × (n ≤ length out))
 unfolding readSecondAnswer
 read-second P out n b = (
   λ e.
@@ -80,22 +99,17 @@ read-second P out n b = (
       ∙ ap result (sym (h .1)),
 )
 
--- ---- "a refused call writes no byte of any buffer"
+-- ---- what an answer leaves
 
-kept-where-refused : (a : Answer) (old new : List ℕ) (n i : ℕ) → a ≡ refusal n i → after a old new ≡ old
-kept-where-refused a old new n i e = ap (λ (x : Answer). after x old new) e
+-- "a refused call writes no byte of any buffer"
+pub refused-leaves : (a : Answer) (old new : List ℕ) (n i : ℕ) → a ≡ refusal n i → after a old new ≡ old
+refused-leaves a old new n i e = ap (λ (x : Answer). after x old new) e
 
-pub demand1 : Demand1
-demand1 = record {
-  write-first = write-first;
-  read-first = read-first;
-  page-capacity = page-capacity;
-  rewrite = rewrite;
-  read-second = read-second;
-  passed-before = passed-before;
-  failed-there = failed-there;
-  write-first-refused = λ P D n i. kept-where-refused (writeFirstAnswer P D) P (firstPage 44 P D) n i;
-  read-first-refused = λ P out n i. kept-where-refused (readFirstAnswer P out) out (atStart (firstRecord (pageWords P 44)) out) n i;
-  rewrite-refused = λ P R n i. kept-where-refused (rewriteAnswer P R) P (outcomeOf 44 P R) n i;
-  read-second-refused = λ P out n i. kept-where-refused (readSecondAnswer P out) out (atStart (secondRecord 44 P) out) n i;
-}
+pub taken-leaves : (a : Answer) (old new : List ℕ) (v : ℕ) → a ≡ result v → after a old new ≡ new
+taken-leaves a old new v e = ap (λ (x : Answer). after x old new) e
+
+-- an output: the new bytes at its start
+pub output-leaves : (a : Answer) (out new r : List ℕ) (v : ℕ) → a ≡ result v → new ≡ r
+    → after a out (atStart new out) ≡ r ++ drop (length r) out
+unfolding atStart
+output-leaves a out new r v e f = taken-leaves a out (atStart new out) v e ∙ ap (λ (x : List ℕ). x ++ drop (length x) out) f

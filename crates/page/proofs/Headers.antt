@@ -16,9 +16,9 @@ use Rattle.word.specs.Word.{legal}
 use Rattle.word.specs.Answer.{Answer, result, refusal}
 use Rattle.page.specs.Page.{zeros, capacityAll, fillAll, putAll, firstWords, firstPage, outcomeOf}
 use Rattle.page.specs.Answer.{after, refuse, writeFirstAnswer, rewriteAnswer}
-use Rattle.page.proofs.Lowest.{all-lowest}
-use Rattle.page.proofs.LegalWords.{all-legal}
-use Rattle.page.proofs.Capacities.{capacity-greatest}
+use Rattle.page.proofs.EachWord.{each-word}
+use Rattle.page.proofs.Capacities.{capacity-bounds-all}
+use Rattle.page.proofs.Scanning.{all-passed}
 use Rattle.page.proofs.Rounds.{equal-taken, long-taken}
 use Rattle.page.proofs.Checks.{refused, unequal, Checked}
 
@@ -86,7 +86,7 @@ pub room-small : (P : List ℕ) → Checked P → capacityAll (pageWords P 44) �
 room-small P k =
     let ws = pageWords P 44 in
     let l = length-pageWords P 44 in
-    omega (arith, l, capacity-greatest ws (all-legal ws (Words-pageWords P 44 (omega (arith, k .sized))) (all-lowest legal ws (k .legal-words ∙ sym l))))
+    omega (arith, l, capacity-bounds-all ws (Words-pageWords P 44 (omega (arith, k .sized))) (each-word legal P 44 (all-passed legal P 44 (k .legal-words))))
 
 module _ (P bs : List ℕ) (k : Checked P) (room : ℕ) (e : room ≡ capacityAll (pageWords P 44)) where
   pub rewrite-long : room / 8 < length bs → rewriteAnswer P bs ≡ refusal 8 room

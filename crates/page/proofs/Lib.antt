@@ -1,19 +1,22 @@
--- The laws of a page.
+-- The laws of a page, and the proof of the demands (Demands.antt).
 pub mod Lowest
+pub mod Scanning
 pub mod Rounds
 pub mod Checks
-pub mod LegalWords
+pub mod EachWord
 pub mod FirstRecord
-pub mod Capacities
-pub mod FirstPages
-pub mod Acceptance
-pub mod Bounds
 pub mod SecondWords
-pub mod Outcome
+pub mod Capacities
+pub mod Origins
+pub mod Kept
+pub mod Laid
+pub mod Acceptance
+pub mod FirstPages
 pub mod TwiceWritten
+pub mod Bounds
+pub mod Demands
 pub mod Zeros
 pub mod Loaded
-pub mod Scanning
 pub mod Measuring
 pub mod Cutting
 pub mod Rewriting

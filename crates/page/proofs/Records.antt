@@ -17,8 +17,7 @@ use Rattle.word.specs.Word.{sum, zeckendorf}
 use Rattle.word.proofs.Sums.{length-zeckendorf}
 use Rattle.page.specs.Page.{firstWords, firstRecord}
 use Rattle.page.specs.Answer.{atStart}
-use Rattle.page.proofs.LegalWords.{all-words}
-use Rattle.page.proofs.FirstRecord.{length-firstWords, legal-firstWords, length-firstRecord}
+use Rattle.page.proofs.FirstRecord.{length-firstWords, Words-firstWords, length-firstRecord}
 
 -- ---- one more word
 
@@ -60,7 +59,7 @@ writing-turn page₀ bs page next i x v h r ex ev en =
     let ew : cells 46 v ≡ w = ap (cells 46) ev ∙ cells-of 46 (zeckendorf 46 x) (length-zeckendorf 46 x) ∙ ap (zeckendorf 46) ex in
     en ∙ ap₂ (λ (p : List ℕ) (u : List Bool). putWord p i u) r ew
     ∙ ap (λ (k : ℕ). putWord (putWords page₀ ws) k w) (sym l)
-    ∙ putWords-more page₀ ws w (all-words ws (legal-firstWords i bs)) (length-zeckendorf 46 _) (omega (arith, l))
+    ∙ putWords-more page₀ ws w (Words-firstWords i bs) (length-zeckendorf 46 _) (omega (arith, l))
     ∙ ap (putWords page₀) (sym (firstWords-more i bs))
 
 -- ---- reading

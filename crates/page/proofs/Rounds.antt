@@ -11,13 +11,14 @@ use lib.Dec.{T, eqb, ltb}
 use lib.ListN.{length, drop}
 use Rattle.cells.specs.Bytes.{Bytes}
 use Rattle.cells.specs.Words.{wordAt, pageWords}
-use Rattle.cells.proofs.Words.{length-pageWords, getD-pageWords}
+use Rattle.cells.proofs.Words.{length-pageWords}
 use Rattle.word.specs.Word.{legal}
 use Rattle.word.specs.Fill.{wellFormed}
 use Rattle.word.specs.Answer.{Answer, result}
 use Rattle.page.specs.Page.{state, byte1, byte2, someSet, lowest, readAll, FirstRoundOf, SecondRoundOf}
 use Rattle.page.specs.Answer.{refuse, refuseWord, ifFirstRound, ifSecondRound}
-use Rattle.page.proofs.Lowest.{lowest-le, lowest-all, all-lowest}
+use Rattle.page.proofs.Lowest.{lowest-le}
+use Rattle.page.proofs.Scanning.{scan-passed, all-passed}
 
 -- ---- one refusal
 
@@ -70,10 +71,8 @@ pub words-taken : (test : List Bool → Bool) (page : List ℕ) (n : ℕ) (a : A
     → refuseWord test (pageWords page n) a ≡ a
 unfolding refuseWord
 words-taken test page n a h =
-    let l = length-pageWords page n in
-    let e : lowest test (pageWords page n) ≡ length (pageWords page n) =
-    lowest-all test (pageWords page n) (λ i k. let s : i < n = omega arith in rw (getD-pageWords page n i s) (h i s)) in
-    long-taken (lowest test (pageWords page n)) (length (pageWords page n)) 7 (lowest test (pageWords page n)) a (omega arith)
+    let ws = pageWords page n in
+    long-taken (lowest test ws) (length ws) 7 (lowest test ws) a (omega (arith, scan-passed test page n h, length-pageWords page n))
 
 pub behind-words : (test : List Bool → Bool) (page : List ℕ) (n v : ℕ) (a : Answer) → refuseWord test (pageWords page n) a ≡ result v
     → ((i : ℕ) → i < n → T (test (wordAt page i))) × (a ≡ result v)
@@ -81,9 +80,7 @@ unfolding refuseWord
 behind-words test page n v a e =
     let ws = pageWords page n in
     let p = behind-long (lowest test ws) (length ws) 7 (lowest test ws) v a e in
-    let l = length-pageWords page n in
-    let m : lowest test ws ≡ length ws = omega (arith, p .0, lowest-le test ws) in
-    (λ i h. rw (getD-pageWords page n i h) at (all-lowest test ws m i (omega arith)), p .1)
+    (all-passed test page n (omega (arith, p .0, lowest-le test ws, length-pageWords page n)), p .1)
 
 -- ---- a first-round page
 

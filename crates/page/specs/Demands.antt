@@ -47,10 +47,10 @@ valueAt D i = number (bits (take 4 (drop (4 * i) D)))
 -- (The answers' definitions have the refusals, in the stated order; the contracts have no `requires`.)
 pub record Demand1 : Type 0 where
   -- "accepts exactly"
-  pub write-first : (P D : List ℕ) → (writeFirstAnswer P D ≡ result 0) ↔ ((P ≡ blank) × (length D ≡ 176))
-  pub read-first : (P out : List ℕ) → Bytes P → (readFirstAnswer P out ≡ result 0) ↔ (FirstRound P × (176 ≤ length out))
+  pub write-first : (P D : List ℕ) (v : ℕ) → (writeFirstAnswer P D ≡ result v) ↔ ((P ≡ blank) × (length D ≡ 176) × (v ≡ 0))
+  pub read-first : (P out : List ℕ) (v : ℕ) → Bytes P → (readFirstAnswer P out ≡ result v) ↔ (FirstRound P × (176 ≤ length out) × (v ≡ 0))
   pub page-capacity : (P : List ℕ) (c : ℕ) → Bytes P → (pageCapacityAnswer P ≡ result c) ↔ (FirstRound P × (c ≡ dataCells P))
-  pub rewrite : (P R : List ℕ) → Bytes P → Bytes R → (rewriteAnswer P R ≡ result 0) ↔ (FirstRound P × Fits R P)
+  pub rewrite : (P R : List ℕ) (v : ℕ) → Bytes P → Bytes R → (rewriteAnswer P R ≡ result v) ↔ (FirstRound P × Fits R P × (v ≡ 0))
   pub read-second : (P out : List ℕ) (n : ℕ) → Bytes P → (readSecondAnswer P out ≡ result n) ↔ (SecondRound P × (n ≡ byte1 P) × (n ≤ length out))
   -- the index of refusal 7 is the lowest: the words before it pass the test, and the word there does not
   pub passed-before : (test : List Bool → Bool) (ws : List (List Bool)) (j : ℕ) → j < lowest test ws → T (test (getD ws j []))
