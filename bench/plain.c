@@ -39,12 +39,9 @@ uint64_t plain_decode_word(uint64_t word) {
     return sum > UINT32_MAX ? (uint64_t)12 << 56 : sum;
 }
 
-uint64_t plain_fill_word(uint64_t word) {
-    uint64_t refused = plain_decode_word(word);
+/* Of a legal word. */
+static uint64_t fill(uint64_t word) {
     unsigned left = 0;
-    if (refused >> 56) {
-        return refused;
-    }
     for (int n = 45; n >= 0; n--) {
         unsigned right = n > 0 ? cell(word, n - 1) : 0;
         if (!left && !cell(word, n) && !right) {
@@ -55,12 +52,10 @@ uint64_t plain_fill_word(uint64_t word) {
     return word;
 }
 
-uint64_t plain_word_capacity(uint64_t word) {
-    uint64_t filled = plain_fill_word(word), count = 0;
+/* Of a filled word. */
+static unsigned count_data_cells(uint64_t filled) {
+    unsigned count = 0;
     int awaited = 0;
-    if (filled >> 56) {
-        return filled;
-    }
     for (int n = 45; n >= 0; n--) {
         if (awaited) {
             count++;
@@ -70,4 +65,197 @@ uint64_t plain_word_capacity(uint64_t word) {
         }
     }
     return count;
+}
+
+uint64_t plain_fill_word(uint64_t word) {
+    uint64_t refused = plain_decode_word(word);
+    return refused >> 56 ? refused : fill(word);
+}
+
+uint64_t plain_word_capacity(uint64_t word) {
+    uint64_t filled = plain_fill_word(word);
+    return filled >> 56 ? filled : count_data_cells(filled);
+}
+
+/* Pages. The cells start in byte 3, the highest bit of a byte first; a word lies in six or seven bytes. */
+
+enum { PAGE = 256, HEADER = 3, WORDS = 44, CELLS = 46, FIRST_RECORD = 176, LONGEST_RECORD = 126 };
+enum { FIRST_ROUND = 0x01, SECOND_ROUND = 0x07 };
+
+static uint64_t refuse(unsigned number, uint64_t index) {
+    return (uint64_t)number << 56 | index;
+}
+
+static uint64_t load_word(const uint8_t *page, int w) {
+    int first = 8 * HEADER + CELLS * w, last = first + CELLS - 1;
+    uint64_t word = 0;
+    for (int i = first / 8; i <= last / 8; i++) {
+        word = word << 8 | page[i];
+    }
+    return word >> (7 - last % 8) & (((uint64_t)1 << CELLS) - 1);
+}
+
+/* Only sets cells: those of the page are among those of the word. */
+static void store_word(uint8_t *page, int w, uint64_t word) {
+    int first = 8 * HEADER + CELLS * w, last = first + CELLS - 1;
+    word <<= 7 - last % 8;
+    for (int i = last / 8; i >= first / 8; i--) {
+        page[i] |= (uint8_t)word;
+        word >>= 8;
+    }
+}
+
+static unsigned record_bit(const uint8_t *record, unsigned n) {
+    return (record[n / 8] >> (7 - n % 8)) & 1;
+}
+
+uint64_t plain_write_first(uint8_t *page, size_t page_length, const uint8_t *data, size_t data_length) {
+    if (page_length != PAGE) {
+        return refuse(1, 0);
+    }
+    if (data_length != FIRST_RECORD) {
+        return refuse(2, 0);
+    }
+    for (int i = 0; i < PAGE; i++) {
+        if (page[i] != 0) {
+            return refuse(4, 0);
+        }
+    }
+    for (int w = 0; w < WORDS; w++) {
+        const uint8_t *d = data + 4 * w;
+        store_word(page, w, plain_encode_word((uint32_t)d[0] << 24 | (uint32_t)d[1] << 16 | (uint32_t)d[2] << 8 | d[3]));
+    }
+    page[0] = FIRST_ROUND;
+    return 0;
+}
+
+/* 0 for a first-round page. */
+static uint64_t check_first_round(const uint8_t *page, size_t page_length) {
+    if (page_length != PAGE) {
+        return refuse(1, 0);
+    }
+    if (page[0] != FIRST_ROUND) {
+        return refuse(5, 0);
+    }
+    if (page[1] != 0 || page[2] != 0) {
+        return refuse(6, 0);
+    }
+    for (int w = 0; w < WORDS; w++) {
+        if (plain_decode_word(load_word(page, w)) >> 56) {
+            return refuse(7, w);
+        }
+    }
+    return 0;
+}
+
+uint64_t plain_read_first(const uint8_t *page, size_t page_length, uint8_t *out, size_t out_length) {
+    uint64_t refused = check_first_round(page, page_length);
+    if (refused) {
+        return refused;
+    }
+    if (out_length < FIRST_RECORD) {
+        return refuse(3, 0);
+    }
+    for (int w = 0; w < WORDS; w++) {
+        uint32_t value = (uint32_t)plain_decode_word(load_word(page, w));
+        out[4 * w] = value >> 24;
+        out[4 * w + 1] = value >> 16;
+        out[4 * w + 2] = value >> 8;
+        out[4 * w + 3] = value;
+    }
+    return 0;
+}
+
+uint64_t plain_page_capacity(const uint8_t *page, size_t page_length) {
+    uint64_t refused = check_first_round(page, page_length), capacity = 0;
+    if (refused) {
+        return refused;
+    }
+    for (int w = 0; w < WORDS; w++) {
+        capacity += count_data_cells(fill(load_word(page, w)));
+    }
+    return capacity;
+}
+
+uint64_t plain_rewrite(uint8_t *page, size_t page_length, const uint8_t *record, size_t record_length) {
+    uint64_t capacity = plain_page_capacity(page, page_length);
+    unsigned next = 0, bits;
+    if (capacity >> 56) {
+        return capacity;
+    }
+    if (record_length > capacity / 8) {
+        return refuse(8, capacity);
+    }
+    bits = 8 * (unsigned)record_length;
+    for (int w = 0; w < WORDS; w++) {
+        uint64_t filled = fill(load_word(page, w)), word = filled;
+        for (int c = 45; c > 0 && next < bits; c--) {
+            if (cell(filled, c)) {
+                word |= (uint64_t)record_bit(record, next++) << (c - 1);
+            }
+        }
+        store_word(page, w, word);
+    }
+    page[0] = SECOND_ROUND;
+    page[1] = (uint8_t)record_length;
+    return 0;
+}
+
+/* Whether the fill could set no further cell. */
+static int is_full(uint64_t separators) {
+    unsigned left = 0;
+    for (int c = 45; c >= 0; c--) {
+        unsigned right = c > 0 ? cell(separators, c - 1) : 0;
+        if (!left && !cell(separators, c) && !right) {
+            return 0;
+        }
+        left = cell(separators, c);
+    }
+    return 1;
+}
+
+uint64_t plain_read_second(const uint8_t *page, size_t page_length, uint8_t *out, size_t out_length) {
+    uint8_t record[LONGEST_RECORD] = {0};
+    unsigned next = 0, spare = 0, bits;
+    if (page_length != PAGE) {
+        return refuse(1, 0);
+    }
+    if (page[0] != SECOND_ROUND) {
+        return refuse(5, 0);
+    }
+    if (page[1] > LONGEST_RECORD || page[2] != 0) {
+        return refuse(6, 0);
+    }
+    bits = 8 * page[1];
+    for (int w = 0; w < WORDS; w++) {
+        uint64_t word = load_word(page, w), separators = 0;
+        for (int c = 45; c >= 0; c--) {
+            if (cell(word, c)) {
+                separators |= (uint64_t)1 << c;
+                c--;
+                if (c >= 0) {
+                    unsigned bit = cell(word, c);
+                    if (next < bits) {
+                        record[next / 8] |= bit << (7 - next % 8);
+                    } else {
+                        spare |= bit;
+                    }
+                    next++;
+                }
+            }
+        }
+        if (!is_full(separators)) {
+            return refuse(7, w);
+        }
+    }
+    if (bits > next || spare) {
+        return refuse(9, 0);
+    }
+    if (out_length < page[1]) {
+        return refuse(3, 0);
+    }
+    for (unsigned i = 0; i < page[1]; i++) {
+        out[i] = record[i];
+    }
+    return page[1];
 }

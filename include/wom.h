@@ -28,13 +28,42 @@
  * Capacity. The capacity of a word is the number of its data cells after the
  * fill.
  *
+ * Page. A page is 256 bytes:
+ *
+ *     byte  0         the state: 0x00 blank, 0x01 first round,
+ *                     0x07 second round; any other is unknown
+ *     byte  1         the length of the second record in bytes: 0 in states
+ *                     0x00 and 0x01, 0 to 126 in state 0x07
+ *     byte  2         0
+ *     bytes 3 to 255  2024 cells, the highest bit of a byte first: words 0 to
+ *                     43, cell 0 first, with nothing between two words
+ *
+ * A blank page has 256 bytes of 0. A first-round page is in state 0x01, its
+ * bytes 1 and 2 are 0, and its 44 words are legal. The capacity of a
+ * first-round page is the sum of the capacities of its words, 660 to 1012.
+ *
+ * First record. The first record is 176 bytes: each four bytes, highest first,
+ * are the value of one word.
+ *
+ * Second record. The second record fits a first-round page when 8 times its
+ * length in bytes is at most the page's capacity. Its bits, the highest bit of
+ * each byte first, go into the data cells of the filled words, word 0 first,
+ * lower cells first. The data cells that are left over are spare, and are 0.
+ *
+ * Reading back. The cells of a second-round word are read from cell 0: a 0 is
+ * passed over; a 1 is a separator, the next cell of the word is a data cell,
+ * and reading goes on after that. A second-round word is well formed when,
+ * with these data cells put to 0, no cell of it could still be set by the
+ * fill.
+ *
  * Answer. Every function returns one uint64_t, which is either a result or a
  * refusal:
  *
  *     bits 56 to 63   the refusal's number; 0: not refused
  *     bits  0 to 55   not refused: the result
- *                     refused:     the refusal's index
- *                                  (0 for every word function)
+ *                     refused:     the refusal's index: for 7 the number of
+ *                                  the word, for 8 the page's capacity, 0 for
+ *                                  every other refusal
  *
  * When several refusals apply, the first in the order in which the function
  * lists them is returned.
@@ -42,6 +71,7 @@
 #ifndef WOM_H
 #define WOM_H
 
+#include <stddef.h>
 #include <stdint.h>
 
 #ifdef __cplusplus
@@ -79,6 +109,21 @@ static inline uint64_t wom_index(uint64_t answer)
 /* ------------------------------------------------------------------------
  *  Refusals
  * ------------------------------------------------------------------------ */
+
+/* A page function refuses with the first of these that applies, in the order
+ * in which the function lists them. */
+#define WOM_PAGE_LENGTH   1 /* the page is not 256 bytes */
+#define WOM_DATA_LENGTH   2 /* the first record is not 176 bytes */
+#define WOM_OUTPUT_LENGTH 3 /* the output is shorter than the record */
+#define WOM_NOT_BLANK     4 /* a byte of the page is not 0 */
+#define WOM_STATE         5 /* the page is not in the state asked for */
+#define WOM_HEADER        6 /* byte 1 or byte 2 is out of its range */
+#define WOM_WORD          7 /* a word is not legal, or not well formed;
+                               index: the lowest such word, 0 to 43 */
+#define WOM_RECORD_LENGTH 8 /* the second record does not fit;
+                               index: the page's capacity in bits */
+#define WOM_DATA_CELLS    9 /* the data cells are too few for byte 1, or a
+                               spare data cell is set */
 
 /* A word is refused with the first of these that applies. */
 #define WOM_HIGH_BIT   10 /* a bit above cell 0 is set */
@@ -136,6 +181,116 @@ uint64_t wom_fill_word(uint64_t word);
  *             12 (WOM_SUM)        if the sum of the set weights exceeds
  *                                 4294967295. */
 uint64_t wom_word_capacity(uint64_t word);
+
+/* ------------------------------------------------------------------------
+ *  Pages
+ *
+ *  A buffer is a pointer to its first byte, and its length in bytes. Every
+ *  function is defined for every length and every content of its buffers.
+ *  What the caller owes is this:
+ *
+ *    - each pointer is valid for the length given with it: for reading, and
+ *      for writing too where it is not to const; with length 0 it may be null
+ *      or point anywhere;
+ *    - the buffers of one call do not overlap.
+ *
+ *  A refused call writes no byte of any buffer. No other memory of the
+ *  caller's is touched, and no pointer is kept.
+ * ------------------------------------------------------------------------ */
+
+#define WOM_PAGE_BYTES        256 /* a page */
+#define WOM_FIRST_BYTES       176 /* the first record */
+#define WOM_SECOND_BYTES_MAX  126 /* the longest second record that fits some
+                                     first-round page */
+#define WOM_SECOND_BYTES_SURE  82 /* every second record of up to this length
+                                     fits every first-round page */
+
+/*! wom_write_first() :
+ *  Writes the first record on a blank page.
+ *    page : the page, blank. Afterwards it is the first-round page of the
+ *           record: state 0x01, bytes 1 and 2 are 0, and word i is the legal
+ *           word of value i.
+ *    data : the first record, 176 bytes.
+ * @return : 0;
+ *           or a refusal with index 0, the first of these that applies:
+ *             1 (WOM_PAGE_LENGTH) if the page is not 256 bytes,
+ *             2 (WOM_DATA_LENGTH) if the data is not 176 bytes,
+ *             4 (WOM_NOT_BLANK)   if any byte of the page is not 0. */
+uint64_t wom_write_first(uint8_t *page, size_t page_length,
+                         const uint8_t *data, size_t data_length);
+
+/*! wom_read_first() :
+ *  Reads the first record of a first-round page.
+ *    page : the page.
+ *    out  : receives the record in its first 176 bytes; any bytes after those
+ *           are left as they are. What it held before does not matter.
+ * @return : 0;
+ *           or a refusal, the first of these that applies:
+ *             1 (WOM_PAGE_LENGTH)   if the page is not 256 bytes,
+ *             5 (WOM_STATE)         if the state is not 0x01,
+ *             6 (WOM_HEADER)        if byte 1 or byte 2 is not 0,
+ *             7 (WOM_WORD)          if a word is not legal; its index is the
+ *                                   lowest such word, 0 to 43,
+ *             3 (WOM_OUTPUT_LENGTH) if the output is shorter than 176 bytes.
+ *           The index is 0 but for 7. */
+uint64_t wom_read_first(const uint8_t *page, size_t page_length,
+                        uint8_t *out, size_t out_length);
+
+/*! wom_page_capacity() :
+ *  Measures a first-round page: how many bits of a second record it takes.
+ *    page : the page.
+ * @return : the page's capacity in bits, 660 to 1012; the longest record that
+ *           fits has an eighth of that in bytes, rounded down;
+ *           or a refusal, the first of these that applies:
+ *             1 (WOM_PAGE_LENGTH) if the page is not 256 bytes,
+ *             5 (WOM_STATE)       if the state is not 0x01,
+ *             6 (WOM_HEADER)      if byte 1 or byte 2 is not 0,
+ *             7 (WOM_WORD)        if a word is not legal; its index is the
+ *                                 lowest such word, 0 to 43.
+ *           The index is 0 but for 7. */
+uint64_t wom_page_capacity(const uint8_t *page, size_t page_length);
+
+/*! wom_rewrite() :
+ *  Writes a second record over a first-round page, without an erase.
+ *    page   : the page. Afterwards it is a second-round page: state 0x07, byte
+ *             1 is the record's length, byte 2 is 0, all 44 words are filled,
+ *             the record's bits are in the data cells, and the spare data
+ *             cells are 0. No cell of any byte is cleared. Nothing of the
+ *             first record can be relied on any more.
+ *    record : the second record, of any length.
+ * @return : 0;
+ *           or a refusal, the first of these that applies:
+ *             1 (WOM_PAGE_LENGTH)   if the page is not 256 bytes,
+ *             5 (WOM_STATE)         if the state is not 0x01,
+ *             6 (WOM_HEADER)        if byte 1 or byte 2 is not 0,
+ *             7 (WOM_WORD)          if a word is not legal; its index is the
+ *                                   lowest such word, 0 to 43,
+ *             8 (WOM_RECORD_LENGTH) if 8 times the record's length exceeds the
+ *                                   page's capacity; its index is that
+ *                                   capacity.
+ *           The index is 0 but for 7 and 8. */
+uint64_t wom_rewrite(uint8_t *page, size_t page_length,
+                     const uint8_t *record, size_t record_length);
+
+/*! wom_read_second() :
+ *  Reads the second record of a second-round page, from the page alone.
+ *    page : the page.
+ *    out  : receives the record in its first bytes; any bytes after those are
+ *           left as they are. What it held before does not matter. 126 bytes
+ *           are enough for every page.
+ * @return : the record's length in bytes, 0 to 126;
+ *           or a refusal, the first of these that applies:
+ *             1 (WOM_PAGE_LENGTH)   if the page is not 256 bytes,
+ *             5 (WOM_STATE)         if the state is not 0x07,
+ *             6 (WOM_HEADER)        if byte 1 exceeds 126 or byte 2 is not 0,
+ *             7 (WOM_WORD)          if a word is not well formed; its index is
+ *                                   the lowest such word, 0 to 43,
+ *             9 (WOM_DATA_CELLS)    if 8 times byte 1 exceeds the number of
+ *                                   data cells, or a spare data cell is 1,
+ *             3 (WOM_OUTPUT_LENGTH) if the output is shorter than the record.
+ *           The index is 0 but for 7. */
+uint64_t wom_read_second(const uint8_t *page, size_t page_length,
+                         uint8_t *out, size_t out_length);
 
 #ifdef __cplusplus
 }

@@ -5,36 +5,21 @@
  *     words plant    the same with one wrong expectation planted, so that the
  *                    test is seen to fail: exit status 1
  *
- * The functions are held against literal lists of cells and against a plain
- * reference that works on arrays of cells.
+ * The functions are held against literal lists of cells and against the plain
+ * reference of reference.h, which works on arrays of cells.
  */
 #include <inttypes.h>
 #include <stdint.h>
 #include <stdio.h>
 #include <string.h>
 
+#include "reference.h"
+#include "testing.h"
 #include "wom.h"
 
-#define CELLS 46
-#define LARGEST_VALUE UINT64_C(4294967295)
-#define LARGEST_SPARSE_SUM UINT64_C(4807526975)
 #define RANDOM_ROUNDS 100000
-#define MISMATCHES_SHOWN 10
 
-/* ---- Counting and reporting -------------------------------------------- */
-
-static unsigned long checks;
-static unsigned long wrong;
-
-/* Counts one check; true when it is wrong and should be shown. */
-static int count_check(int right)
-{
-    checks++;
-    if (right)
-        return 0;
-    wrong++;
-    return wrong <= MISMATCHES_SHOWN;
-}
+/* ---- Reporting --------------------------------------------------------- */
 
 /* Checks that a call gave what is expected, all 64 bits of it. */
 static void check(const char *call, uint64_t argument, uint64_t came,
@@ -57,193 +42,6 @@ static void check_fact(const char *call, uint64_t argument, uint64_t came,
         fprintf(stderr,
                 "%s(0x%" PRIx64 "): came 0x%016" PRIx64 ", expected: %s\n",
                 call, argument, came, fact);
-}
-
-/* ---- Words and cells --------------------------------------------------- */
-
-static uint64_t bit(int number)
-{
-    return UINT64_C(1) << number;
-}
-
-/* The cells of a word; bits above cell 0 are left out. */
-static void cells_of_word(uint64_t word, int cell[CELLS])
-{
-    int c;
-
-    for (c = 0; c < CELLS; c++)
-        cell[c] = (int)((word >> (45 - c)) & 1);
-}
-
-static uint64_t word_of_cells(const int cell[CELLS])
-{
-    uint64_t word = 0;
-    int c;
-
-    for (c = 0; c < CELLS; c++)
-        word = 2 * word + (uint64_t)cell[c];
-    return word;
-}
-
-/* A cell of a word; outside the word it counts as 0. */
-static int cell_at(const int cell[CELLS], int c)
-{
-    return 0 <= c && c < CELLS ? cell[c] : 0;
-}
-
-static int has_neighbours(const int cell[CELLS])
-{
-    int c;
-
-    for (c = 0; c < CELLS; c++)
-        if (cell_at(cell, c) && cell_at(cell, c + 1))
-            return 1;
-    return 0;
-}
-
-/* True when the fill may set cell c. */
-static int can_be_set(const int cell[CELLS], int c)
-{
-    return !cell_at(cell, c - 1) && !cell_at(cell, c) && !cell_at(cell, c + 1);
-}
-
-/* ---- The reference ----------------------------------------------------- */
-
-static uint64_t weight[CELLS]; /* by cell */
-
-static void build_weights(void)
-{
-    int c;
-
-    weight[45] = 1;
-    weight[44] = 2;
-    for (c = 43; c >= 0; c--)
-        weight[c] = weight[c + 1] + weight[c + 2];
-}
-
-/* The word without neighbours whose set weights have this sum: the largest
- * weight first. The sum may exceed 32 bits, up to LARGEST_SPARSE_SUM. */
-static uint64_t reference_encode(uint64_t sum)
-{
-    int cell[CELLS];
-    int c;
-
-    for (c = 0; c < CELLS; c++) {
-        cell[c] = weight[c] <= sum;
-        if (cell[c])
-            sum -= weight[c];
-    }
-    return word_of_cells(cell);
-}
-
-static uint64_t sum_of_weights(const int cell[CELLS])
-{
-    uint64_t sum = 0;
-    int c;
-
-    for (c = 0; c < CELLS; c++)
-        if (cell[c])
-            sum += weight[c];
-    return sum;
-}
-
-/* The refusal's number for a word, 0 for a legal word. */
-static unsigned reference_refusal(uint64_t word)
-{
-    int cell[CELLS];
-    int b;
-
-    for (b = CELLS; b < 64; b++)
-        if (word & bit(b))
-            return 10;
-    cells_of_word(word, cell);
-    if (has_neighbours(cell))
-        return 11;
-    if (sum_of_weights(cell) > LARGEST_VALUE)
-        return 12;
-    return 0;
-}
-
-static uint64_t refused(unsigned number)
-{
-    return (uint64_t)number << 56;
-}
-
-/* What is made of the cells of a legal word; a refusal for any other word. */
-static uint64_t if_legal(uint64_t word, uint64_t (*make)(int cell[CELLS]))
-{
-    unsigned refusal = reference_refusal(word);
-    int cell[CELLS];
-
-    if (refusal)
-        return refused(refusal);
-    cells_of_word(word, cell);
-    return make(cell);
-}
-
-static uint64_t value_of_cells(int cell[CELLS])
-{
-    return sum_of_weights(cell);
-}
-
-static uint64_t reference_decode(uint64_t word)
-{
-    return if_legal(word, value_of_cells);
-}
-
-/* Fills from cell 0 to cell 45. */
-static void fill_cells(int cell[CELLS])
-{
-    int c;
-
-    for (c = 0; c < CELLS; c++)
-        if (can_be_set(cell, c))
-            cell[c] = 1;
-}
-
-static uint64_t filled_word(int cell[CELLS])
-{
-    fill_cells(cell);
-    return word_of_cells(cell);
-}
-
-static uint64_t reference_fill(uint64_t word)
-{
-    return if_legal(word, filled_word);
-}
-
-/* Marks the data cells by reading back from cell 0: a 0 is passed over; a 1 is
- * a separator, the next cell is a data cell, and reading goes on after that.
- * Returns their number. */
-static unsigned find_data_cells(const int cell[CELLS], int is_data[CELLS])
-{
-    unsigned count = 0;
-    int c;
-
-    memset(is_data, 0, CELLS * sizeof is_data[0]);
-    for (c = 0; c < CELLS; c++) {
-        if (!cell[c])
-            continue;
-        c++;
-        if (c < CELLS) {
-            is_data[c] = 1;
-            count++;
-        }
-    }
-    return count;
-}
-
-static uint64_t data_cells_when_filled(int cell[CELLS])
-{
-    int is_data[CELLS];
-
-    fill_cells(cell);
-    return find_data_cells(cell, is_data);
-}
-
-static uint64_t reference_capacity(uint64_t word)
-{
-    return if_legal(word, data_cells_when_filled);
 }
 
 /* ---- Literal values ---------------------------------------------------- */
@@ -451,30 +249,6 @@ static void check_sums(void)
 
 /* ---- Random values and words ------------------------------------------- */
 
-static uint64_t random_state;
-
-/* splitmix64 */
-static uint64_t random_bits(void)
-{
-    uint64_t z;
-
-    random_state += UINT64_C(0x9e3779b97f4a7c15);
-    z = random_state;
-    z = (z ^ (z >> 30)) * UINT64_C(0xbf58476d1ce4e5b9);
-    z = (z ^ (z >> 27)) * UINT64_C(0x94d049bb133111eb);
-    return z ^ (z >> 31);
-}
-
-static int further_cell_can_be_set(const int cell[CELLS])
-{
-    int c;
-
-    for (c = 0; c < CELLS; c++)
-        if (can_be_set(cell, c))
-            return 1;
-    return 0;
-}
-
 /* Facts that hold of every legal word. */
 static void check_facts(uint64_t word)
 {
@@ -508,7 +282,7 @@ static void check_random_values(void)
 {
     int i;
 
-    random_state = 1;
+    seed_random_bits(1);
     for (i = 0; i < RANDOM_ROUNDS; i++)
         check_value((uint32_t)random_bits() >> (i % 32));
 }
@@ -572,7 +346,7 @@ static void check_random_words(void)
     unsigned long met[13] = {0}; /* by the refusal's number */
     int i;
 
-    random_state = 2;
+    seed_random_bits(2);
     for (i = 0; i < RANDOM_ROUNDS; i++) {
         uint64_t word = random_word(i % 5);
 
