@@ -14,8 +14,8 @@ use Rattle.cells.proofs.Numbers.{length-cells, number-lt, cells-number}
 use Rattle.cells.proofs.Bytes.{bytes-bits}
 use Rattle.cells.proofs.Words.{length-putCells, putCells-more, pageWords-more, length-wordAt}
 use Rattle.word.specs.Word.{sparse}
-use Rattle.word.specs.Fill.{fill, readFrom, read, put, clear, full, wellFormed, capacity}
-use Rattle.word.proofs.Tests.{is-true}
+use Rattle.word.specs.Fill.{fill, readFrom, read, put, clear, wellFormed, capacity}
+use Rattle.word.proofs.Tests.{holds, is-true}
 use Rattle.word.proofs.Filling.{capacity-le}
 use Rattle.word.proofs.SecondBits.{sparse-clear}
 use Rattle.word.proofs.Clearing.{clear-lt, cells-clear}
@@ -35,20 +35,20 @@ formed-some w e f =
     let c : length (read (clear w)) ≡ length (read (fill (o .0))) = ap (λ (v : List Bool). length (read v)) (o .2) in
     omega (arith, c, well-formed-words .same-count w, capacity-bounds .least (o .0) (o .1))
 
--- s has the separators of word i, which is held as w
+-- word i, held as w, is well formed, and s has its separators
 pub record Separated (page : List ℕ) (i w s : ℕ) : Type 0 where
   pub is-word : cells 46 w ≡ wordAt page i
   pub small : s < 2 ^ 46
   pub apart : sparse (cells 46 s) ≡ true
-  pub tests : full (cells 46 s) ≡ wellFormed (wordAt page i)
+  pub formed : wellFormed (wordAt page i) ≡ true
   pub count : length (read (cells 46 s)) ≡ length (read (wordAt page i))
   pub most : length (read (wordAt page i)) ≤ 23
-  pub some : T (wellFormed (wordAt page i)) → 1 ≤ length (read (wordAt page i))
+  pub some : 1 ≤ length (read (wordAt page i))
 
 pub separated : (page : List ℕ) (i w s : ℕ) → start i + 46 ≤ 8 * length page → w ≡ number (wordAt page i) → s ≡ number (clear (cells 46 w))
-    → Separated page i w s
-unfolding read wellFormed
-separated page i w s h e es =
+    → wellFormed (wordAt page i) ≡ true → Separated page i w s
+unfolding read
+separated page i w s h e es f =
     let v = wordAt page i in
     let ew : cells 46 w ≡ v = loaded-cells page i w h e in
     let ec : cells 46 s ≡ clear v = ap (cells 46) es ∙ cells-clear w ∙ ap clear ew in
@@ -56,10 +56,10 @@ separated page i w s h e es =
       is-word = ew;
       small = omega (arith, clear-lt w);
       apart = ap sparse ec ∙ is-true (sparse (clear v)) (clear-apart v);
-      tests = ap full ec;
+      formed = f;
       count = ap (λ (x : List Bool). length (read x)) ec ∙ well-formed-words .same-count v;
       most = omega (arith, capacity-le false v, length-wordAt page i h);
-      some = formed-some v (length-wordAt page i h);
+      some = formed-some v (length-wordAt page i h) (holds (wellFormed v) f);
     }
   where
     clear-apart : (v : List Bool) → T (sparse (clear v))
@@ -93,9 +93,9 @@ module _ (page buffer₀ : List ℕ) where
   gathering-length buffer at i g = ap length (g .held) ∙ length-putCells buffer₀ 0 (readAll (pageWords page i))
 
   pub gathering-turn : (buffer next : List ℕ) (at i w s n v : ℕ) → Gathering buffer at i → 23 * i ≤ 8 * length buffer₀ → Separated page i w s
-      → full (cells 46 s) ≡ true → n ≡ length (read (cells 46 s)) → v ≡ number (read (cells 46 w)) → next ≡ putCells buffer at (cells n v)
+      → n ≡ length (read (cells 46 s)) → v ≡ number (read (cells 46 w)) → next ≡ putCells buffer at (cells n v)
       → Gathering next (at + n) (i + 1)
-  gathering-turn buffer next at i w s n v g h sw ef en ev ex =
+  gathering-turn buffer next at i w s n v g h sw en ev ex =
       let x = wordAt page i in
       let r = readAll (pageWords page i) in
       let more : readAll (pageWords page (i + 1)) ≡ r ++ read x = ap readAll (pageWords-more page i) ∙ readAll-more (pageWords page i) x in
@@ -104,7 +104,7 @@ module _ (page buffer₀ : List ℕ) where
       ap₂ cells nx (ev ∙ ap (λ (l : List Bool). number (read l)) (sw .is-word)) ∙ cells-number (read x) in
       let at0 : at ≡ 0 + length r = g .counted ∙ sym (zero-add (length r)) in
       record {
-        formed = passed-more wellFormed page i (g .formed) (sym (sw .tests) ∙ ef);
+        formed = passed-more wellFormed page i (g .formed) (sw .formed);
         few = omega (arith, g .few, sw .most);
         counted = omega (arith, g .counted, length-append r (read x), ap length more);
         held =

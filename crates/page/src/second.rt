@@ -8,7 +8,7 @@ use word::second::data_cells;
 use word::second::put_bits;
 use word::second::read_bits;
 use word::separators::fill_word;
-use word::separators::is_full;
+use word::separators::is_well_formed;
 use word::separators::separators_of;
 ghost use mathlib.Core.Path.{_≡_};
 ghost use Prim.Native.Nat.{_^_, _+_, _≤_, _<_};
@@ -84,10 +84,10 @@ pub fn gather(page: &[u8], buffer: &mut [u8]) -> Gathered
     let mut i: usize = 0;
     while i < 44 {
         let word = load_word(page, i);
-        let separators = separators_of(word);
-        if !is_full(separators) {
+        if !is_well_formed(word) {
             return Gathered { words: i, cells: at };
         }
+        let separators = separators_of(word);
         let count = data_cells(separators) as usize;
         put_cells(buffer, at, count, read_bits(word, separators));
         at += count;

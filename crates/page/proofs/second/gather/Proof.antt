@@ -1,17 +1,13 @@
 -- `page::second::gather` meets its contract: before word i the words before it are well formed, and their bits are in the buffer.
 -- Assumes nothing.
 use mathlib.Core.Path.{_≡_, sym, ap, _∙_, subst}
-use mathlib.Core.Bool.{true}
 use Prim.Native.Nat.{ℕ, _+_, _≤_, _-_}
 use native.Mathlib.Omega.{arith}
 use borrow.Author.Tests.{not-true, not-false}
-use lib.Dec.{T}
 use lib.ListN.{length}
-use Rattle.cells.specs.Cells.{cells}
 use Rattle.cells.specs.Words.{wordAt}
-use Rattle.word.specs.Fill.{full, wellFormed}
-use Rattle.word.proofs.Tests.{holds}
-use Rattle.page.proofs.Loaded.{loaded-lt}
+use Rattle.word.specs.Fill.{wellFormed}
+use Rattle.page.proofs.Loaded.{loaded-lt, loaded-cells}
 use Rattle.page.proofs.Scanning.{Passed, scan-failed, scan-passed}
 use Rattle.page.proofs.Gathering.{Separated, separated, read-fits, Gathering, gathering-start, gathering-length, gathering-turn}
 use Rattle.page.proofs.second.gather.Statement.{statement}
@@ -29,50 +25,46 @@ loop-holds c = (omega arith, c .before .before .pre .1, gathering-start _ _ (λ 
 load-word-requires : tie.Need-load-word-requires Inv-loop μ-loop
 load-word-requires c κs = omega arith
 
-separators-of-requires : tie.Need-separators-of-requires Inv-loop μ-loop
-separators-of-requires c κs = loaded-lt _ _ _ (omega arith) (c .load-word .ensures)
+is-well-formed-requires : tie.Need-is-well-formed-requires Inv-loop μ-loop
+is-well-formed-requires c κs = loaded-lt _ _ _ (omega arith) (c .load-word .ensures)
 
-word : (c : tie.After-separators-of Inv-loop μ-loop) →
-    Separated (c .before .before .before .before .before .before .args .page .now) (c .before .before .before .loop .i)
-    (c .before .load-word .result) (c .separators-of .result)
-word c = separated _ _ _ _ (omega arith) (c .before .load-word .ensures) (c .separators-of .ensures)
-
-is-full-requires : tie.Need-is-full-requires Inv-loop μ-loop
-is-full-requires c κs = word c .small
+-- the test's answer is about word i
+tested : (c : tie.After-is-well-formed Inv-loop μ-loop) →
+    c .is-well-formed .result ≡ wellFormed (wordAt (c .before .before .before .before .before .before .args .page .now) (c .before .before .before .loop .i))
+tested c = c .is-well-formed .ensures ∙ ap wellFormed (loaded-cells _ _ _ (omega arith) (c .before .load-word .ensures))
 
 same-length : tie.Need-same-length Inv-loop μ-loop
-same-length c = c .before .before .before .before .before .loop .inv .1 ∙ sym (c .before .before .before .before .before .before .before .before .pre .1)
-
--- past the test word i is well formed
-full-word : (c : tie.Else1 Inv-loop μ-loop) → full (cells 46 (c .before .before .separators-of .result)) ≡ true
-full-word c = sym (c .before .is-full .ensures) ∙ not-false _ (c .if1 .left)
-
-formed : (c : tie.Else1 Inv-loop μ-loop) →
-    T (wellFormed (wordAt (c .before .before .before .before .before .before .before .before .args .page .now) (c .before .before .before .before .before .loop .i)))
-formed c = holds _ (sym (word (c .before .before) .tests) ∙ full-word c)
+same-length c = c .before .before .before .before .loop .inv .1 ∙ sym (c .before .before .before .before .before .before .before .pre .1)
 
 returns : tie.Need-returns Inv-loop μ-loop
 returns c =
+    let g = c .before .before .before .before .loop .inv .2 in
+    (sym (scan-failed wellFormed _ 44 _ (omega arith) (g .formed) (sym (tested (c .before)) ∙ not-true _ (c .if1 .taken))), (g .counted, g .held))
+
+separators-of-requires : tie.Need-separators-of-requires Inv-loop μ-loop
+separators-of-requires c κs = loaded-lt _ _ _ (omega arith) (c .before .before .load-word .ensures)
+
+word : (c : tie.After-separators-of Inv-loop μ-loop) →
     let l = c .before .before .before .before .before in
-    let g = l .loop .inv .2 in
-    (sym (scan-failed wellFormed _ 44 _ (omega arith) (g .formed) (sym (word (c .before .before) .tests) ∙ sym (c .before .is-full .ensures) ∙ not-true _ (c .if1 .taken))),
-    (g .counted, g .held))
+    Separated (l .before .before .before .args .page .now) (l .loop .i) (c .before .before .before .load-word .result) (c .separators-of .result)
+word c =
+    let passed = c .before in
+    separated _ _ _ _ (omega arith) (passed .before .before .load-word .ensures) (c .separators-of .ensures)
+    (sym (tested (passed .before)) ∙ not-false _ (passed .if1 .left))
 
 data-cells-requires : tie.Need-data-cells-requires Inv-loop μ-loop
-data-cells-requires c κs = let w = word (c .before .before) in (w .small, w .apart)
+data-cells-requires c κs = let w = word c in (w .small, w .apart)
 
 read-bits-requires : tie.Need-read-bits-requires Inv-loop μ-loop
-read-bits-requires c κs = let s = c .before .before .before .before in (loaded-lt _ _ _ (omega arith) (s .before .load-word .ensures), s .separators-of .ensures)
+read-bits-requires c κs = let s = c .before .before in (loaded-lt _ _ _ (omega arith) (s .before .before .before .load-word .ensures), s .separators-of .ensures)
 
 put-cells-requires : tie.Need-put-cells-requires Inv-loop μ-loop
 put-cells-requires c κs =
     let count = c .before .before in
-    let passed = count .before in
-    let w = word (passed .before .before) in
-    let l = passed .before .before .before .before .before in
+    let w = word (count .before) in
     let n = count .data-cells .ensures in (
-      omega (arith, l .loop .inv .2 .few),
-      omega (arith, n, w .count, w .some (formed passed)),
+      omega (arith, count .before .before .before .before .before .before .loop .inv .2 .few),
+      omega (arith, n, w .count, w .some),
       omega (arith, n, w .count, w .most),
       read-fits _ _ _ _ _ _ w n (c .read-bits .ensures),
     )
@@ -83,10 +75,9 @@ turned : (c : tie.After-put-cells Inv-loop μ-loop) →
     Gathering (a .page .now) (a .buffer .now) (c .put-cells .last .0) (l .loop .at + c .before .before .before .data-cells .result) (l .loop .i + 1)
 turned c =
     let count = c .before .before .before in
-    let passed = count .before in
-    let l = passed .before .before .before .before .before in
-    gathering-turn _ _ _ _ _ _ _ _ _ _ (l .loop .inv .2) (omega (arith, l .before .before .before .pre .1)) (word (passed .before .before))
-    (full-word passed) (count .data-cells .ensures) (c .before .read-bits .ensures) (c .put-cells .ensures)
+    let l = count .before .before .before .before .before .before in
+    gathering-turn _ _ _ _ _ _ _ _ _ _ (l .loop .inv .2) (omega (arith, l .before .before .before .pre .1)) (word (count .before))
+    (count .data-cells .ensures) (c .before .read-bits .ensures) (c .put-cells .ensures)
 
 add-at : tie.Need-add-at Inv-loop μ-loop
 add-at c = omega (arith, turned (c .before .before) .few)
@@ -120,10 +111,10 @@ gather-spec =
     μ-loop
     loop-holds
     load-word-requires
-    separators-of-requires
-    is-full-requires
+    is-well-formed-requires
     same-length
     returns
+    separators-of-requires
     data-cells-requires
     read-bits-requires
     put-cells-requires
