@@ -11,8 +11,8 @@ use Rattle.word.specs.Answer.{result}
 use Rattle.page.specs.Page.{byte1, firstRecord, firstPage, secondRecord}
 use Rattle.page.specs.Answer.{atStart, writeFirstAnswer, readFirstAnswer, rewriteAnswer, rewriteLeaves, readSecondAnswer, readSecondLeaves}
 use Rattle.page.specs.Demands.{FirstRound, Fits, outcome, Demand1, Demand2, Demand3}
-use Rattle.page.proofs.Lowest.{passed-before, failed-there}
 use Rattle.page.proofs.Acceptance.{write-first, read-first, page-capacity, rewrite, read-second, refused-leaves, taken-leaves, output-leaves}
+use Rattle.page.proofs.Refusals.{read-first-7, page-capacity-7, rewrite-7, read-second-7, rewrite-8}
 use Rattle.page.proofs.FirstPages.{first-round, word-of, sum-of, written, read-back}
 use Rattle.page.proofs.Bounds.{capacity-counts, bounds, least-met, greatest-met, eighty-two}
 use Rattle.page.proofs.Laid.{form}
@@ -25,8 +25,11 @@ demand1 = record {
   page-capacity = page-capacity;
   rewrite = rewrite;
   read-second = read-second;
-  passed-before = passed-before;
-  failed-there = failed-there;
+  read-first-7 = read-first-7;
+  page-capacity-7 = page-capacity-7;
+  rewrite-7 = rewrite-7;
+  read-second-7 = read-second-7;
+  rewrite-8 = rewrite-8;
   write-first-refused = λ P D n i. refused-leaves (writeFirstAnswer P D) P (firstPage 44 P D) n i;
   read-first-refused = λ P out n i. refused-leaves (readFirstAnswer P out) out (atStart (firstRecord (pageWords P 44)) out) n i;
   rewrite-refused = λ P R n i. refused-leaves (rewriteAnswer P R) P (outcome P R) n i;

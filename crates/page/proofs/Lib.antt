@@ -11,6 +11,7 @@ pub mod Origins
 pub mod Kept
 pub mod Laid
 pub mod Acceptance
+pub mod Refusals
 pub mod FirstPages
 pub mod TwiceWritten
 pub mod Bounds

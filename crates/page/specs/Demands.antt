@@ -3,7 +3,7 @@
 -- holds afterwards, for every page, record and output.
 -- Assumes nothing.
 use mathlib.Core.Bool.{Bool, false}
-use mathlib.Core.List.{List, [], _++_}
+use mathlib.Core.List.{List, _++_}
 use mathlib.Core.Logic.{_↔_}
 use mathlib.Core.Path.{_≡_}
 use Prim.Native.Nat.{ℕ, _*_, _≤_, _<_}
@@ -15,7 +15,7 @@ use Rattle.cells.specs.Words.{wordAt, pageWords}
 use Rattle.word.specs.Word.{sum, legal, zeckendorf}
 use Rattle.word.specs.Fill.{wellFormed}
 use Rattle.word.specs.Answer.{result, refusal}
-use Rattle.page.specs.Page.{state, byte1, byte2, lowest, blankOf, FirstRoundOf, SecondRoundOf, FitsOf, outcomeOf, fillAll, readAll}
+use Rattle.page.specs.Page.{byte1, blankOf, FirstRoundOf, SecondRoundOf, FitsOf, outcomeOf, fillAll, readAll}
 use Rattle.page.specs.Answer.{writeFirstAnswer, writeFirstLeaves, readFirstAnswer, readFirstLeaves, pageCapacityAnswer, rewriteAnswer, rewriteLeaves, readSecondAnswer, readSecondLeaves}
 
 -- document 01's page: 256 bytes, 44 words
@@ -42,9 +42,14 @@ dataCells P = length (readAll (fillAll (pageWords P 44)))
 abbrev pub valueAt : List ℕ → ℕ → ℕ
 valueAt D i = number (bits (take 4 (drop (4 * i) D)))
 
+-- word i does not pass a test, and every word before it does
+abbrev pub LowestBad : (List Bool → Bool) → List ℕ → ℕ → Type 0
+LowestBad test P i = (i < 44) × (test (wordAt P i) ≡ false) × ((j : ℕ) → j < i → T (test (wordAt P j)))
+
 -- Demand 1. Each operation accepts exactly the pages and records that the rules describe, of every length, and ends. Everything else it
 -- refuses by the number in the document, without relying on a prior check, and a refused call writes no byte of any buffer.
--- (The answers' definitions have the refusals, in the stated order; the contracts have no `requires`.)
+-- (This is about the page operations; word/specs/Claims.antt has the same for a word, `LegalAccepted`. The contracts have no `requires`,
+-- and a proved function returns. Buffers that are only read cannot be written, by their type.)
 pub record Demand1 : Type 0 where
   -- "accepts exactly"
   pub write-first : (P D : List ℕ) (v : ℕ) → (writeFirstAnswer P D ≡ result v) ↔ ((P ≡ blank) × (length D ≡ 176) × (v ≡ 0))
@@ -52,9 +57,13 @@ pub record Demand1 : Type 0 where
   pub page-capacity : (P : List ℕ) (c : ℕ) → Bytes P → (pageCapacityAnswer P ≡ result c) ↔ (FirstRound P × (c ≡ dataCells P))
   pub rewrite : (P R : List ℕ) (v : ℕ) → Bytes P → Bytes R → (rewriteAnswer P R ≡ result v) ↔ (FirstRound P × Fits R P × (v ≡ 0))
   pub read-second : (P out : List ℕ) (n : ℕ) → Bytes P → (readSecondAnswer P out ≡ result n) ↔ (SecondRound P × (n ≡ byte1 P) × (n ≤ length out))
-  -- the index of refusal 7 is the lowest: the words before it pass the test, and the word there does not
-  pub passed-before : (test : List Bool → Bool) (ws : List (List Bool)) (j : ℕ) → j < lowest test ws → T (test (getD ws j []))
-  pub failed-there : (test : List Bool → Bool) (ws : List (List Bool)) → lowest test ws < length ws → test (getD ws (lowest test ws) []) ≡ false
+  -- "refuses by the number in the document": the answers' definitions have each number with its condition, in the stated order. 7 carries
+  -- the lowest index of a word that is not legal, or not well formed; 8 carries the page's capacity, which is too small
+  pub read-first-7 : (P out : List ℕ) (i : ℕ) → readFirstAnswer P out ≡ refusal 7 i → LowestBad legal P i
+  pub page-capacity-7 : (P : List ℕ) (i : ℕ) → pageCapacityAnswer P ≡ refusal 7 i → LowestBad legal P i
+  pub rewrite-7 : (P R : List ℕ) (i : ℕ) → rewriteAnswer P R ≡ refusal 7 i → LowestBad legal P i
+  pub read-second-7 : (P out : List ℕ) (i : ℕ) → readSecondAnswer P out ≡ refusal 7 i → LowestBad wellFormed P i
+  pub rewrite-8 : (P R : List ℕ) (c : ℕ) → rewriteAnswer P R ≡ refusal 8 c → (c ≡ dataCells P) × (c < 8 * length R)
   -- "a refused call writes no byte of any buffer"
   pub write-first-refused : (P D : List ℕ) (n i : ℕ) → writeFirstAnswer P D ≡ refusal n i → writeFirstLeaves P D ≡ P
   pub read-first-refused : (P out : List ℕ) (n i : ℕ) → readFirstAnswer P out ≡ refusal n i → readFirstLeaves P out ≡ out
@@ -67,7 +76,8 @@ pub record Demand1 : Type 0 where
 pub record Demand2 : Type 0 where
   -- a page is first-round exactly when some 176 bytes written to a blank page give it
   pub first-round : (P : List ℕ) → FirstRound P ↔ ((D : List ℕ) × Bytes D × (length D ≡ 176) × (writeFirstLeaves blank D ≡ P))
-  -- "the Zeckendorf sums of the 32-bit words, 46 cells a word": the 46 cells of each word, and their sum
+  -- "the Zeckendorf sums of the 32-bit words, 46 cells a word": the 46 cells of each word, and their sum. (`OneLegalWord` of
+  -- word/specs/Claims.antt: each value has exactly one legal word. `TableIsSeries`: the weights are the papers' series.)
   pub word-of : (D : List ℕ) → length D ≡ 176 → (i : ℕ) → i < 44 → wordAt (writeFirstLeaves blank D) i ≡ zeckendorf 46 (valueAt D i)
   pub sum-of : (D : List ℕ) → length D ≡ 176 → (i : ℕ) → i < 44 → sum (wordAt (writeFirstLeaves blank D) i) ≡ valueAt D i
   -- "written and read back exactly": both accepted, and the output, if long enough, starts with the same bytes
