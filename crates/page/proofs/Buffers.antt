@@ -1,14 +1,14 @@
 -- A buffer of zeros that bits were put into, from its first on: its bytes are those of the bits, with 0 after them. Assumes nothing.
 use mathlib.Core.Path.{_≡_, refl, sym, ap, ap₂, _∙_}
-use mathlib.Core.Bool.{Bool, true, false, cond, not, _&&_, _||_}
+use mathlib.Core.Bool.{Bool, true, false, not, _&&_, _||_}
 use mathlib.Core.List.{List, [], _∷_, _++_}
-use Prim.Native.Nat.{ℕ, zero, suc, _+_, _*_, _^_, _≤_, _<_}
+use Prim.Native.Nat.{ℕ, zero, suc, _+_, _*_, _^_, _≤_}
 use native.Mathlib.Omega.{arith}
 use borrow.Author.Tests.{ne-eqb}
 use lib.Dec.{eqb}
 use lib.ListN.{length, take, drop, replicate, length-append, length-drop, length-replicate}
 use lib.Pow.{pow-pos}
-use lib.Seq.{take-append-le, drop-append-le, drop-nil}
+use lib.Seq.{take-append-le, drop-append-le}
 use Rattle.cells.specs.Cells.{number, cells}
 use Rattle.cells.specs.Bytes.{bits, bytes, Bytes}
 use Rattle.cells.specs.Words.{splice, putCells, Words}

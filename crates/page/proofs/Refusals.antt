@@ -7,7 +7,7 @@ use native.Mathlib.Omega.{arith}
 use borrow.Author.Tests.{ltb-true}
 use lib.Dec.{T, eqb, ltb}
 use lib.ListN.{length, drop, getD}
-use Rattle.cells.specs.Words.{wordAt, pageWords}
+use Rattle.cells.specs.Words.{pageWords}
 use Rattle.cells.proofs.Words.{length-pageWords, getD-pageWords}
 use Rattle.word.specs.Word.{legal}
 use Rattle.word.specs.Fill.{wellFormed}

@@ -10,7 +10,7 @@ use Rattle.cells.specs.Cells.{number, cells}
 use Rattle.cells.specs.Bytes.{bits, Bytes}
 use Rattle.cells.specs.Words.{start, pieces, wordAt, pageWords, putWord, putWords, Words}
 use Rattle.cells.proofs.Numbers.{length-cells, number-below, cells-of}
-use Rattle.cells.proofs.Words.{putWords-none, putWords-more, wordAt-putWords, length-putWord, length-putWords, length-pageWords, Words-pageWords, pageWords-more, length-wordAt}
+use Rattle.cells.proofs.Words.{putWords-none, putWords-more, wordAt-putWords, length-putWords, length-pageWords, Words-pageWords, pageWords-more, length-wordAt}
 use Rattle.word.specs.Word.{legal}
 use Rattle.word.specs.Fill.{fill, read, fit, put}
 use Rattle.word.proofs.Filling.{length-fill}

@@ -54,9 +54,7 @@ fn bits_at(second: &[u8], at: usize, count: usize) -> u64
 // Fills the words of a page and puts a record's bits into their data cells, 0 into the spare ones.
 pub fn rewrite_words(page: &mut [u8], second: &[u8])
     requires { ⌜ (length (now page) ≡ 256) × (lowest legal (pageWords (now page) 44) ≡ 44) ⌝ }
-    ensures {
-        λ _. ⌜ now (page .exit) ≡ putWords (now (page .entry)) (putAll (fillAll (pageWords (now (page .entry)) 44)) (bits (now (second .entry)))) ⌝
-    }
+    ensures { λ _. ⌜ now (page .exit) ≡ putWords (now (page .entry)) (putAll (fillAll (pageWords (now (page .entry)) 44)) (bits (now (second .entry)))) ⌝ }
 {
     let mut at: usize = 0;
     for i in 0..44 {
@@ -85,7 +83,10 @@ pub fn gather(page: &[u8], buffer: &mut [u8]) -> Gathered
     while i < 44 {
         let word = load_word(page, i);
         if !is_well_formed(word) {
-            return Gathered { words: i, cells: at };
+            return Gathered {
+                words: i,
+                cells: at,
+            };
         }
         let separators = separators_of(word);
         let count = data_cells(separators) as usize;
@@ -93,7 +94,10 @@ pub fn gather(page: &[u8], buffer: &mut [u8]) -> Gathered
         at += count;
         i += 1;
     }
-    Gathered { words: i, cells: at }
+    Gathered {
+        words: i,
+        cells: at,
+    }
 }
 
 // Puts the first n bytes of a buffer at the start of an output, four at a time and then the rest. (A copy byte by byte would be compiled

@@ -1,19 +1,12 @@
 -- `page::read_second` meets its contract: each test answers as the definition does, in its order, and the record is copied from what was
 -- gathered. Assumes nothing.
-use mathlib.Core.Path.{_≡_, sym, ap, _∙_, subst}
+use mathlib.Core.Path.{ap, _∙_}
 use mathlib.Core.List.{List}
 use Prim.Native.Nat.{ℕ}
 use native.Mathlib.Omega.{arith}
 use borrow.Author.Needs.{needs}
-use lib.ListN.{length, replicate}
-use Rattle.cells.specs.Words.{pageWords, putCells}
-use Rattle.cells.proofs.Words.{length-pageWords}
-use Rattle.word.specs.Fill.{wellFormed}
-use Rattle.page.specs.Page.{readAll, secondRecord}
 use Rattle.page.specs.Answer.{atStart}
-use Rattle.page.proofs.Lowest.{lowest-le}
 use Rattle.page.proofs.Headers.{both-refused, both-done}
-use Rattle.page.proofs.Buffers.{buffer-record}
 use Rattle.page.proofs.SecondChecks.{Found, all-found, second-length, second-state, second-byte1, second-byte2, second-word, second-few, second-spare, second-output, second-done, second-record}
 use Rattle.page.proofs.read_second.Statement.{statement}
 use Rattle.page.proofs.read_second.Tie as tie

@@ -1,6 +1,6 @@
 -- `page::rewrite` meets its contract: the check's refusals are its own; where the record fits, the header is set, then the words.
 -- Assumes nothing.
-use mathlib.Core.Path.{_≡_, sym, ap, _∙_}
+use mathlib.Core.Path.{sym, ap, _∙_}
 use native.Mathlib.Omega.{arith}
 use borrow.Author.Needs.{needs}
 use lib.ListN.{length, length-set}

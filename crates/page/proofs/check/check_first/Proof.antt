@@ -1,6 +1,6 @@
 -- `page::check::check_first` meets its contract: each test answers as the definition does, in its order.
 -- Assumes nothing.
-use mathlib.Core.Path.{_≡_, sym, _∙_}
+use mathlib.Core.Path.{sym, _∙_}
 use native.Mathlib.Omega.{arith}
 use borrow.Author.Needs.{needs}
 use Rattle.word.specs.Word.{legal}

@@ -1,6 +1,6 @@
 -- `page::second::copy_start` meets its contract: after j turns the first 4 * j bytes are in. Assumes nothing.
-use mathlib.Core.Path.{_≡_, refl, sym, ap, _∙_}
-use Prim.Native.Nat.{ℕ, _≤_, _+_, _*_, _/_, _-_, _^_}
+use mathlib.Core.Path.{_≡_, refl, ap, _∙_}
+use Prim.Native.Nat.{ℕ, _≤_, _+_, _*_, _/_, _-_}
 use native.Mathlib.Omega.{arith}
 use lib.ListN.{length, take}
 use Rattle.cells.specs.Bytes.{Bytes}
@@ -47,7 +47,7 @@ loop-again c =
       omega arith,
       put .put-bytes .kept .0 ∙ l .loop .inv .1,
       copy-more _ (a .args .out .now) _ _ (4 * l .loop .j) 4 _ _ b (omega arith) (omega arith) (l .loop .inv .2) (four .four-bytes .ensures) (four-whole _) (put .put-bytes .ensures)
-      ∙ ap (λ (k : ℕ). atStart (take k (a .args .buffer .now)) (a .args .out .now)) e,
+          ∙ ap (λ (k : ℕ). atStart (take k (a .args .buffer .now)) (a .args .out .now)) e,
     )
 
 mul-k : tie.Need-mul-k Inv-loop μ-loop

@@ -2,8 +2,7 @@
 use mathlib.Core.Path.{_≡_, refl, ap, _∙_}
 use Prim.Native.Nat.{ℕ, _≤_, _<_, _+_, _*_, _-_, _^_}
 use native.Mathlib.Omega.{arith}
-use borrow.Author.Needs.{needs}
-use lib.ListN.{drop, getD}
+use lib.ListN.{drop}
 use Rattle.cells.specs.Cells.{number}
 use Rattle.cells.specs.Bytes.{bits}
 use Rattle.word.specs.Fill.{fit}
@@ -27,8 +26,11 @@ below c = omega (arith, four-lt (bits (drop (c .before .before .before .args .k)
 
 byte : (c : tie.After-byte-or-zero Inv-loop μ-loop) → c .byte-or-zero .result < 256
 byte c =
-    omega (arith, c .byte-or-zero .ensures,
-    c .before .before .before .shared-slice-known .given (c .before .before .before .before .args .k + c .before .before .loop .j))
+    omega (
+      arith,
+      c .byte-or-zero .ensures,
+      c .before .before .before .shared-slice-known .given (c .before .before .before .before .args .k + c .before .before .loop .j),
+    )
 
 mul-v : tie.Need-mul-v Inv-loop μ-loop
 mul-v c = omega (arith, below c)

@@ -1,6 +1,6 @@
 -- `page::second::rewrite_words` meets its contract: before word i the words before it are done, and the record's bits before bit `at` are
 -- in. Assumes nothing.
-use mathlib.Core.Path.{_≡_, sym, ap, _∙_, subst}
+use mathlib.Core.Path.{_≡_, ap, _∙_}
 use Prim.Native.Nat.{ℕ, _+_, _≤_, _-_}
 use native.Mathlib.Omega.{arith}
 use lib.ListN.{length}
