@@ -57,30 +57,30 @@ pub read-first : (P out : List ℕ) (v : ℕ) → Bytes P → (readFirstAnswer P
 unfolding readFirstAnswer
 read-first P out v b = (
   λ e.
-      let p = behind-first P v _ b e in
+      let p = behind-first 44 256 P v _ b e in
       let q = behind-long (length out) 176 3 0 v (result 0) (p .1) in
       (p .0, q .0, same-result 0 v (q .1)),
-  λ h. first-taken P _ (h .0) ∙ long-taken (length out) 176 3 0 (result 0) (h .1) ∙ ap result (sym (h .2)),
+  λ h. first-taken 44 256 P _ (h .0) ∙ long-taken (length out) 176 3 0 (result 0) (h .1) ∙ ap result (sym (h .2)),
 )
 
 pub page-capacity : (P : List ℕ) (c : ℕ) → Bytes P → (pageCapacityAnswer P ≡ result c) ↔ (FirstRound P × (c ≡ dataCells P))
 unfolding pageCapacityAnswer
 page-capacity P c b = (
   λ e.
-      let p = behind-first P c _ b e in
+      let p = behind-first 44 256 P c _ b e in
       (p .0, same-result (capacityAll (pageWords P 44)) c (p .1) ∙ capacity-count (pageWords P 44)),
-  λ h. first-taken P _ (h .0) ∙ ap result (capacity-count (pageWords P 44) ∙ sym (h .1)),
+  λ h. first-taken 44 256 P _ (h .0) ∙ ap result (capacity-count (pageWords P 44) ∙ sym (h .1)),
 )
 
 pub rewrite : (P R : List ℕ) (v : ℕ) → Bytes P → Bytes R → (rewriteAnswer P R ≡ result v) ↔ (FirstRound P × Fits R P × (v ≡ 0))
 unfolding rewriteAnswer
 rewrite P R v b r = (
   λ e.
-      let p = behind-first P v _ b e in
+      let p = behind-first 44 256 P v _ b e in
       let q = behind-long (capacityAll (pageWords P 44)) (8 * length R) 8 (capacityAll (pageWords P 44)) v (result 0) (p .1) in
       (p .0, record { of-bytes = r; room = q .0 }, same-result 0 v (q .1)),
   λ h.
-      first-taken P _ (h .0)
+      first-taken 44 256 P _ (h .0)
       ∙ long-taken (capacityAll (pageWords P 44)) (8 * length R) 8 (capacityAll (pageWords P 44)) (result 0) (h .1 .room) ∙ ap result (sym (h .2)),
 )
 
@@ -89,12 +89,12 @@ pub read-second : (P out : List ℕ) (n : ℕ) → Bytes P
 unfolding readSecondAnswer
 read-second P out n b = (
   λ e.
-      let p = behind-second P n _ b e in
+      let p = behind-second 44 256 126 P n _ b e in
       let q = behind-long (length out) (byte1 P) 3 0 n (result (byte1 P)) (p .1) in
       let s : n ≡ byte1 P = same-result (byte1 P) n (q .1) in
       (p .0, s, rw s (q .0)),
   λ h.
-      second-taken P _ (h .0)
+      second-taken 44 256 126 P _ (h .0)
       ∙ long-taken (length out) (byte1 P) 3 0 (result (byte1 P)) (rw (h .1) at (h .2))
       ∙ ap result (sym (h .1)),
 )

@@ -46,28 +46,28 @@ module _ (test : List Bool → Bool) (page : List ℕ) (n : ℕ) (a : Answer) wh
 -- ---- a first-round page, test after test
 
 module _ (P : List ℕ) (a : Answer) where
-  pub length-refused : (length P ≡ 256 → ⊥) → ifFirstRound P a ≡ refusal 1 0
+  pub length-refused : (length P ≡ 256 → ⊥) → ifFirstRound 44 256 P a ≡ refusal 1 0
   unfolding ifFirstRound
   length-refused h = unequal (length P) 256 1 0 _ h
 
   module _ (l : length P ≡ 256) where
-    pub state-refused : (state P ≡ 1 → ⊥) → ifFirstRound P a ≡ refusal 5 0
+    pub state-refused : (state P ≡ 1 → ⊥) → ifFirstRound 44 256 P a ≡ refusal 5 0
     unfolding ifFirstRound
     state-refused h = equal-taken 1 0 _ l ∙ unequal (state P) 1 5 0 _ h
 
     module _ (s : state P ≡ 1) where
-      to-header : ifFirstRound P a ≡ refuse (not (eqb (byte1 P) 0) || not (eqb (byte2 P) 0)) 6 0 (refuseWord legal (pageWords P 44) a)
+      to-header : ifFirstRound 44 256 P a ≡ refuse (not (eqb (byte1 P) 0) || not (eqb (byte2 P) 0)) 6 0 (refuseWord legal (pageWords P 44) a)
       unfolding ifFirstRound
       to-header = equal-taken 1 0 _ l ∙ equal-taken 5 0 _ s
 
-      pub byte1-refused : (byte1 P ≡ 0 → ⊥) → ifFirstRound P a ≡ refusal 6 0
+      pub byte1-refused : (byte1 P ≡ 0 → ⊥) → ifFirstRound 44 256 P a ≡ refusal 6 0
       byte1-refused h = to-header ∙ refused _ 6 0 _ (ap (λ (t : Bool). not t || not (eqb (byte2 P) 0)) (ne-eqb (byte1 P) 0 h))
 
-      pub byte2-refused : (byte2 P ≡ 0 → ⊥) → ifFirstRound P a ≡ refusal 6 0
+      pub byte2-refused : (byte2 P ≡ 0 → ⊥) → ifFirstRound 44 256 P a ≡ refusal 6 0
       byte2-refused h = to-header ∙ either (not (eqb (byte1 P) 0)) (not (eqb (byte2 P) 0)) 6 0 _ (ap not (ne-eqb (byte2 P) 0 h))
 
       module _ (z : byte1 P ≡ 0) (y : byte2 P ≡ 0) where
-        pub to-words : ifFirstRound P a ≡ refuseWord legal (pageWords P 44) a
+        pub to-words : ifFirstRound 44 256 P a ≡ refuseWord legal (pageWords P 44) a
         to-words = to-header ∙ rw (eq-eqb (byte1 P) 0 z, eq-eqb (byte2 P) 0 y)
 
 -- ---- from one answer to another
@@ -93,7 +93,7 @@ tests-passed false false false true i x v a e = let z : _≡_ {A = ℕ} 0 1 = cc
 tests-passed false false false false i x v a e = (refl, refl, refl)
 
 -- a refusal does not depend on the answer behind it
-pub still-refused : (P : List ℕ) (a : Answer) (n k : ℕ) → refusal n k ≡ ifFirstRound P (result 0) → ifFirstRound P a ≡ refusal n k
+pub still-refused : (P : List ℕ) (a : Answer) (n k : ℕ) → refusal n k ≡ ifFirstRound 44 256 P (result 0) → ifFirstRound 44 256 P a ≡ refusal n k
 unfolding by-tests ifFirstRound refuseWord
 still-refused P a n k e =
     tests-refused (not (eqb (length P) 256)) (not (eqb (state P) 1)) (not (eqb (byte1 P) 0) || not (eqb (byte2 P) 0))
@@ -103,9 +103,9 @@ still-refused P a n k e =
 pub record Checked (P : List ℕ) : Type 0 where
   pub sized : length P ≡ 256
   pub legal-words : lowest legal (pageWords P 44) ≡ 44
-  pub answers : (a : Answer) → ifFirstRound P a ≡ a
+  pub answers : (a : Answer) → ifFirstRound 44 256 P a ≡ a
 
-pub checked : (P : List ℕ) (v : ℕ) → result v ≡ ifFirstRound P (result 0) → Checked P
+pub checked : (P : List ℕ) (v : ℕ) → result v ≡ ifFirstRound 44 256 P (result 0) → Checked P
 unfolding by-tests ifFirstRound refuseWord
 checked P v e =
     let p = go (result 0) in
@@ -115,7 +115,7 @@ checked P v e =
       answers = λ a. go a .2;
     }
   where
-    go : (a : Answer) → (not (eqb (length P) 256) ≡ false) × (ltb (lowest legal (pageWords P 44)) (length (pageWords P 44)) ≡ false) × (ifFirstRound P a ≡ a)
+    go : (a : Answer) → (not (eqb (length P) 256) ≡ false) × (ltb (lowest legal (pageWords P 44)) (length (pageWords P 44)) ≡ false) × (ifFirstRound 44 256 P a ≡ a)
     go a =
         tests-passed (not (eqb (length P) 256)) (not (eqb (state P) 1)) (not (eqb (byte1 P) 0) || not (eqb (byte2 P) 0))
         (ltb (lowest legal (pageWords P 44)) (length (pageWords P 44))) (lowest legal (pageWords P 44)) 0 v a e

@@ -58,7 +58,7 @@ first-set P bs n h = ap (λ (p : List ℕ). putWords p (firstWords n bs)) (set-s
 
 -- ---- rewrite
 
-pub header-set : (P : List ℕ) (a b : ℕ) → 2 ≤ length P → set (set P 0 a) 1 b ≡ a ∷ b ∷ drop 2 P
+header-set : (P : List ℕ) (a b : ℕ) → 2 ≤ length P → set (set P 0 a) 1 b ≡ a ∷ b ∷ drop 2 P
 header-set P a b h =
     ap (λ (p : List ℕ). set p 1 b) (set-split P 0 a (omega arith))
     ∙ ap (λ (p : List ℕ). a ∷ p) (set-split (drop 1 P) 0 b (omega (arith, length-drop 1 P)) ∙ ap (λ (p : List ℕ). b ∷ p) (drop-drop 1 1 P))

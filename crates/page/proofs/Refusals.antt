@@ -52,12 +52,12 @@ past-header : (p q r : Bool) (n i : ℕ) (a : Answer) → 6 < n → refuse p 1 0
 past-header p q r n i a h e =
     past r 6 0 n i a (λ x. omega arith) (past q 5 0 n i (refuse r 6 0 a) (λ x. omega arith) (past p 1 0 n i (refuse q 5 0 (refuse r 6 0 a)) (λ x. omega arith) e))
 
-past-first : (P : List ℕ) (n i : ℕ) (a : Answer) → 6 < n → ifFirstRound P a ≡ refusal n i → refuseWord legal (pageWords P 44) a ≡ refusal n i
+past-first : (P : List ℕ) (n i : ℕ) (a : Answer) → 6 < n → ifFirstRound 44 256 P a ≡ refusal n i → refuseWord legal (pageWords P 44) a ≡ refusal n i
 unfolding ifFirstRound
 past-first P n i a h e =
     past-header (not (eqb (length P) 256)) (not (eqb (state P) 1)) (not (eqb (byte1 P) 0) || not (eqb (byte2 P) 0)) n i (refuseWord legal (pageWords P 44) a) h e
 
-first-7 : (P : List ℕ) (a : Answer) (i : ℕ) → (a ≡ refusal 7 i → ⊥) → ifFirstRound P a ≡ refusal 7 i → LowestBad legal P i
+first-7 : (P : List ℕ) (a : Answer) (i : ℕ) → (a ≡ refusal 7 i → ⊥) → ifFirstRound 44 256 P a ≡ refusal 7 i → LowestBad legal P i
 first-7 P a i d e = word-7 legal P a i d (past-first P 7 i a (omega arith) e)
 
 pub read-first-7 : (P out : List ℕ) (i : ℕ) → readFirstAnswer P out ≡ refusal 7 i → LowestBad legal P i

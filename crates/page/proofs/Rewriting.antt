@@ -10,7 +10,7 @@ use Rattle.cells.specs.Cells.{number, cells}
 use Rattle.cells.specs.Bytes.{bits, Bytes}
 use Rattle.cells.specs.Words.{start, pieces, wordAt, pageWords, putWord, putWords, Words}
 use Rattle.cells.proofs.Numbers.{length-cells, number-below, cells-of}
-use Rattle.cells.proofs.Words.{putWords-none, putWords-more, wordAt-putWords, length-putWords, length-pageWords, Words-pageWords, pageWords-more, length-wordAt}
+use Rattle.cells.proofs.Words.{putWords-none, putWords-more, wordAt-putWords, length-pageWords, Words-pageWords, pageWords-more, length-wordAt}
 use Rattle.word.specs.Word.{legal}
 use Rattle.word.specs.Fill.{fill, read, fit, put}
 use Rattle.word.proofs.Filling.{length-fill}
@@ -66,11 +66,8 @@ module _ (page₀ second : List ℕ) where
   }
 
   module _ (page : List ℕ) (at i : ℕ) (r : Rewriting page at i) (h : start i + 46 ≤ 8 * length page₀) where
-    pub rewriting-length : length page ≡ length page₀
-    rewriting-length = ap length (r .words-done) ∙ length-putWords page₀ (done i)
-
     -- word i is still as it was
-    pub rewriting-word : wordAt page i ≡ wordAt page₀ i
+    rewriting-word : wordAt page i ≡ wordAt page₀ i
     rewriting-word =
         ap (λ (p : List ℕ). wordAt p i) (r .words-done)
         ∙ wordAt-putWords page₀ (done i) i (Words-done i (omega arith)) (omega (arith, length-done i)) (omega (arith, length-done i))

@@ -59,7 +59,7 @@ neither : (a b : Bool) → (a || b) ≡ false → (a ≡ false) × (b ≡ false)
 neither true b e = absurd (subst T e tt)
 neither false b e = (refl, e)
 
-pub behind-neither : (a b : Bool) (n i v : ℕ) (x : Answer) → refuse (a || b) n i x ≡ result v → (a ≡ false) × (b ≡ false) × (x ≡ result v)
+behind-neither : (a b : Bool) (n i v : ℕ) (x : Answer) → refuse (a || b) n i x ≡ result v → (a ≡ false) × (b ≡ false) × (x ≡ result v)
 behind-neither a b n i v x e =
     let p = behind (a || b) n i v x e in
     let q = neither a b (p .0) in
@@ -67,14 +67,14 @@ behind-neither a b n i v x e =
 
 -- ---- the words
 
-pub words-taken : (test : List Bool → Bool) (page : List ℕ) (n : ℕ) (a : Answer) → ((i : ℕ) → i < n → T (test (wordAt page i)))
+words-taken : (test : List Bool → Bool) (page : List ℕ) (n : ℕ) (a : Answer) → ((i : ℕ) → i < n → T (test (wordAt page i)))
     → refuseWord test (pageWords page n) a ≡ a
 unfolding refuseWord
 words-taken test page n a h =
     let ws = pageWords page n in
     long-taken (lowest test ws) (length ws) 7 (lowest test ws) a (omega (arith, scan-passed test page n h, length-pageWords page n))
 
-pub behind-words : (test : List Bool → Bool) (page : List ℕ) (n v : ℕ) (a : Answer) → refuseWord test (pageWords page n) a ≡ result v
+behind-words : (test : List Bool → Bool) (page : List ℕ) (n v : ℕ) (a : Answer) → refuseWord test (pageWords page n) a ≡ result v
     → ((i : ℕ) → i < n → T (test (wordAt page i))) × (a ≡ result v)
 unfolding refuseWord
 behind-words test page n v a e =
@@ -84,21 +84,21 @@ behind-words test page n v a e =
 
 -- ---- a first-round page
 
-pub first-taken : (P : List ℕ) (a : Answer) → FirstRoundOf 44 256 P → ifFirstRound P a ≡ a
+pub first-taken : (n size : ℕ) (P : List ℕ) (a : Answer) → FirstRoundOf n size P → ifFirstRound n size P a ≡ a
 unfolding ifFirstRound
-first-taken P a f =
+first-taken n size P a f =
     equal-taken 1 0 _ (f .sized)
     ∙ equal-taken 5 0 _ (f .in-state)
     ∙ neither-taken 6 0 _ (equal (f .byte1-zero)) (equal (f .byte2-zero))
-    ∙ words-taken legal P 44 a (f .words-legal)
+    ∙ words-taken legal P n a (f .words-legal)
 
-pub behind-first : (P : List ℕ) (v : ℕ) (a : Answer) → Bytes P → ifFirstRound P a ≡ result v → FirstRoundOf 44 256 P × (a ≡ result v)
+pub behind-first : (n size : ℕ) (P : List ℕ) (v : ℕ) (a : Answer) → Bytes P → ifFirstRound n size P a ≡ result v → FirstRoundOf n size P × (a ≡ result v)
 unfolding ifFirstRound
-behind-first P v a b e =
-    let p1 = behind-equal (length P) 256 1 0 v _ e in
+behind-first n size P v a b e =
+    let p1 = behind-equal (length P) size 1 0 v _ e in
     let p5 = behind-equal (state P) 1 5 0 v _ (p1 .1) in
     let p6 = behind-neither (not (eqb (byte1 P) 0)) (not (eqb (byte2 P) 0)) 6 0 v _ (p5 .1) in
-    let p7 = behind-words legal P 44 v a (p6 .2) in (
+    let p7 = behind-words legal P n v a (p6 .2) in (
       record {
         sized = p1 .0;
         of-bytes = b;
@@ -112,30 +112,30 @@ behind-first P v a b e =
 
 -- ---- a second-round page
 
-pub second-taken : (P : List ℕ) (a : Answer) → SecondRoundOf 44 256 126 P → ifSecondRound P a ≡ a
+pub second-taken : (n size most : ℕ) (P : List ℕ) (a : Answer) → SecondRoundOf n size most P → ifSecondRound n size most P a ≡ a
 unfolding ifSecondRound
-second-taken P a f =
-    let l = readAll (pageWords P 44) in
+second-taken n size most P a f =
+    let l = readAll (pageWords P n) in
     equal-taken 1 0 _ (f .sized)
     ∙ equal-taken 5 0 _ (f .in-state)
-    ∙ neither-taken 6 0 _ (le-ltb 126 (byte1 P) (f .byte1-most)) (equal (f .byte2-zero))
-    ∙ words-taken wellFormed P 44 _ (f .words-formed)
+    ∙ neither-taken 6 0 _ (le-ltb most (byte1 P) (f .byte1-most)) (equal (f .byte2-zero))
+    ∙ words-taken wellFormed P n _ (f .words-formed)
     ∙ neither-taken 9 0 a (le-ltb (length l) (8 * byte1 P) (f .cells-enough)) (f .spare-zero)
 
-pub behind-second : (P : List ℕ) (v : ℕ) (a : Answer) → Bytes P → ifSecondRound P a ≡ result v → SecondRoundOf 44 256 126 P × (a ≡ result v)
+pub behind-second : (n size most : ℕ) (P : List ℕ) (v : ℕ) (a : Answer) → Bytes P → ifSecondRound n size most P a ≡ result v → SecondRoundOf n size most P × (a ≡ result v)
 unfolding ifSecondRound
-behind-second P v a b e =
-    let l = readAll (pageWords P 44) in
-    let p1 = behind-equal (length P) 256 1 0 v _ e in
+behind-second n size most P v a b e =
+    let l = readAll (pageWords P n) in
+    let p1 = behind-equal (length P) size 1 0 v _ e in
     let p5 = behind-equal (state P) 7 5 0 v _ (p1 .1) in
-    let p6 = behind-neither (ltb 126 (byte1 P)) (not (eqb (byte2 P) 0)) 6 0 v _ (p5 .1) in
-    let p7 = behind-words wellFormed P 44 v _ (p6 .2) in
+    let p6 = behind-neither (ltb most (byte1 P)) (not (eqb (byte2 P) 0)) 6 0 v _ (p5 .1) in
+    let p7 = behind-words wellFormed P n v _ (p6 .2) in
     let p9 = behind-neither (ltb (length l) (8 * byte1 P)) (someSet (drop (8 * byte1 P) l)) 9 0 v a (p7 .1) in (
       record {
         sized = p1 .0;
         of-bytes = b;
         in-state = p5 .0;
-        byte1-most = ltb-false 126 (byte1 P) (p6 .0);
+        byte1-most = ltb-false most (byte1 P) (p6 .0);
         byte2-zero = from-equal (byte2 P) 0 (p6 .1);
         words-formed = p7 .0;
         cells-enough = ltb-false (length l) (8 * byte1 P) (p9 .0);

@@ -56,19 +56,19 @@ writeFirstLeaves page bs = after (writeFirstAnswer page bs) page (firstPage 44 p
 
 -- ---- a first-round page
 
--- refuses 1 if the page is not 256 bytes, 5 if the state is not 01, 6 if byte 1 or byte 2 is not 0, 7 with the lowest index of a word
--- that is not legal; else the answer is a
-unfoldable pub ifFirstRound : List ℕ → Answer → Answer
-ifFirstRound page a =
-    refuse (not (eqb (length page) 256)) 1 0
+-- of a page of n words and `size` bytes, for document 01 44 and 256: refuses 1 if the page is not that many bytes, 5 if the state is not
+-- 01, 6 if byte 1 or byte 2 is not 0, 7 with the lowest index of a word that is not legal; else the answer is a
+unfoldable pub ifFirstRound : ℕ → ℕ → List ℕ → Answer → Answer
+ifFirstRound n size page a =
+    refuse (not (eqb (length page) size)) 1 0
     (refuse (not (eqb (state page) 1)) 5 0
     (refuse (not (eqb (byte1 page) 0) || not (eqb (byte2 page) 0)) 6 0
-    (refuseWord legal (pageWords page 44)
+    (refuseWord legal (pageWords page n)
     a)))
 
 -- read first: refuses 1, 5, 6, 7, then 3 if the output is shorter than 176
 unfoldable pub readFirstAnswer : List ℕ → List ℕ → Answer
-readFirstAnswer page out = ifFirstRound page (refuse (ltb (length out) 176) 3 0 (result 0))
+readFirstAnswer page out = ifFirstRound 44 256 page (refuse (ltb (length out) 176) 3 0 (result 0))
 
 -- 176 bytes at the start of the output
 abbrev pub readFirstLeaves : List ℕ → List ℕ → List ℕ
@@ -76,12 +76,12 @@ readFirstLeaves page out = after (readFirstAnswer page out) out (atStart (firstR
 
 -- page capacity: refuses 1, 5, 6, 7 as in read first; returns the bits that a first-round page offers
 unfoldable pub pageCapacityAnswer : List ℕ → Answer
-pageCapacityAnswer page = ifFirstRound page (result (capacityAll (pageWords page 44)))
+pageCapacityAnswer page = ifFirstRound 44 256 page (result (capacityAll (pageWords page 44)))
 
 -- rewrite: refuses 1, 5, 6, 7 as in read first, then 8 with the page's capacity if 8 times the record's length exceeds it
 unfoldable pub rewriteAnswer : List ℕ → List ℕ → Answer
 rewriteAnswer page bs =
-    ifFirstRound page
+    ifFirstRound 44 256 page
     (refuse (ltb (capacityAll (pageWords page 44)) (8 * length bs)) 8 (capacityAll (pageWords page 44))
     (result 0))
 
@@ -90,20 +90,21 @@ rewriteLeaves page bs = after (rewriteAnswer page bs) page (outcomeOf 44 page bs
 
 -- ---- a second-round page
 
--- refuses 1 if the page is not 256 bytes, 5 if the state is not 07, 6 if byte 1 exceeds 126 or byte 2 is not 0, 7 with the lowest index of
--- a word not well formed, 9 if 8 times byte 1 exceeds the number of data cells or a spare data cell is 1; else the answer is a
-unfoldable pub ifSecondRound : List ℕ → Answer → Answer
-ifSecondRound page a =
-    refuse (not (eqb (length page) 256)) 1 0
+-- of a page of n words and `size` bytes, and a record of at most `most` bytes, for document 01 44, 256 and 126: refuses 1 if the page is
+-- not that many bytes, 5 if the state is not 07, 6 if byte 1 exceeds the most or byte 2 is not 0, 7 with the lowest index of a word not well
+-- formed, 9 if 8 times byte 1 exceeds the number of data cells or a spare data cell is 1; else the answer is a
+unfoldable pub ifSecondRound : ℕ → ℕ → ℕ → List ℕ → Answer → Answer
+ifSecondRound n size most page a =
+    refuse (not (eqb (length page) size)) 1 0
     (refuse (not (eqb (state page) 7)) 5 0
-    (refuse (ltb 126 (byte1 page) || not (eqb (byte2 page) 0)) 6 0
-    (refuseWord wellFormed (pageWords page 44)
-    (refuse (ltb (length (readAll (pageWords page 44))) (8 * byte1 page) || someSet (drop (8 * byte1 page) (readAll (pageWords page 44)))) 9 0
+    (refuse (ltb most (byte1 page) || not (eqb (byte2 page) 0)) 6 0
+    (refuseWord wellFormed (pageWords page n)
+    (refuse (ltb (length (readAll (pageWords page n))) (8 * byte1 page) || someSet (drop (8 * byte1 page) (readAll (pageWords page n)))) 9 0
     a))))
 
 -- read second: refuses 1, 5, 6, 7, 9, then 3 if the output is shorter than the record; returns the length
 unfoldable pub readSecondAnswer : List ℕ → List ℕ → Answer
-readSecondAnswer page out = ifSecondRound page (refuse (ltb (length out) (byte1 page)) 3 0 (result (byte1 page)))
+readSecondAnswer page out = ifSecondRound 44 256 126 page (refuse (ltb (length out) (byte1 page)) 3 0 (result (byte1 page)))
 
 -- the record at the start of the output
 abbrev pub readSecondLeaves : List ℕ → List ℕ → List ℕ

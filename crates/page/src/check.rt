@@ -14,7 +14,7 @@ pub enum FirstCheck {
 }
 
 pub fn check_first(page: &[u8]) -> FirstCheck
-    ensures { λ r. ⌜ firstCheckCode r ≡ ifFirstRound (now (page .entry)) (result 0) ⌝ }
+    ensures { λ r. ⌜ firstCheckCode r ≡ ifFirstRound 44 256 (now (page .entry)) (result 0) ⌝ }
 {
     if page.len() != 256 {
         return FirstCheck::PageLength;

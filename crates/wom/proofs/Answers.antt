@@ -82,7 +82,7 @@ header p q r a f =
     behind p 1 0 (refuse q 5 0 (refuse r 6 0 a)) (omega arith)
     (behind q 5 0 (refuse r 6 0 a) (omega arith) (behind r 6 0 a (omega arith) f))
 
-first-round : (P : List ℕ) (a : Answer) → Faithful a → Faithful (ifFirstRound P a)
+first-round : (P : List ℕ) (a : Answer) → Faithful a → Faithful (ifFirstRound 44 256 P a)
 unfolding ifFirstRound
 first-round P a f =
     header (not (eqb (length P) 256)) (not (eqb (state P) 1)) (not (eqb (byte1 P) 0) || not (eqb (byte2 P) 0)) _ (words legal P a f)
