@@ -55,7 +55,7 @@ behind-long a b n i v x e =
 pub neither-taken : {a b : Bool} (n i : ℕ) (x : Answer) → a ≡ false → b ≡ false → refuse (a || b) n i x ≡ x
 neither-taken n i x e f = ap₂ (λ (s t : Bool). refuse (s || t) n i x) e f
 
-neither : (a b : Bool) → (a || b) ≡ false → (a ≡ false) × (b ≡ false)
+pub neither : (a b : Bool) → (a || b) ≡ false → (a ≡ false) × (b ≡ false)
 neither true b e = absurd (subst T e tt)
 neither false b e = (refl, e)
 

@@ -4,7 +4,6 @@
 use mathlib.Core.List.{List}
 use mathlib.Core.Path.{_≡_}
 use Prim.Native.Nat.{ℕ, _+_, _*_, _/_, _%_, _^_}
-use Rattle.cells.specs.Bytes.{Bytes}
 use Rattle.page.specs.Answer.{writeFirstAnswer, readFirstAnswer, pageCapacityAnswer, rewriteAnswer, readSecondAnswer}
 use Rattle.word.specs.Answer.{Answer, result, refusal, encodeAnswer, decodeAnswer, fillAnswer, capacityAnswer}
 
@@ -33,10 +32,10 @@ pub record WordAnswersFaithful : Type 0 where
   pub fill : (word : ℕ) → Faithful (fillAnswer word)
   pub capacity : (word : ℕ) → Faithful (capacityAnswer word)
 
--- and for every page, record and output; a byte of a page is below 256
+-- and for every page, record and output
 pub record PageAnswersFaithful : Type 0 where
   pub write-first : (P D : List ℕ) → Faithful (writeFirstAnswer P D)
   pub read-first : (P out : List ℕ) → Faithful (readFirstAnswer P out)
   pub page-capacity : (P : List ℕ) → Faithful (pageCapacityAnswer P)
   pub rewrite : (P R : List ℕ) → Faithful (rewriteAnswer P R)
-  pub read-second : (P out : List ℕ) → Bytes P → Faithful (readSecondAnswer P out)
+  pub read-second : (P out : List ℕ) → Faithful (readSecondAnswer P out)

@@ -16,7 +16,7 @@ use Rattle.word.specs.Weights.{weights}
 use Rattle.word.specs.Answer.{result, decodeAnswer}
 use Rattle.word.specs.Claims.{Legal, OneLegalWord, LegalAccepted, TableIsSeries, FillLeavesNoRoom, CapacityBounds, SecondBitsKept, WellFormedWords}
 use Rattle.word.proofs.Tests.{holds, is-true}
-use Rattle.word.proofs.Weights.{weight-47, weights-next}
+use Rattle.word.proofs.Weights.{weight-47, weights-at, weights-next}
 use Rattle.word.proofs.Sums.{length-zeckendorf, sum-zeckendorf, sparse-zeckendorf, zeckendorf-sum, word-lt, legal-parts, legal-from}
 use Rattle.word.proofs.Filling.{length-fill, kept-fill, fill-apart, fill-most, kept-trans, capacity-le, capacity-ge}
 use Rattle.word.proofs.SecondBits.{read-put, fit-pad, put-fit, put-put, put-read, clear-sparse, length-read-clear, kept-clear}
@@ -84,7 +84,7 @@ legal-accepted = record {
 
 pub table-is-series : TableIsSeries
 unfolding weights
-table-is-series = record { entries = refl; one = refl; two = refl; next = weights-next; last = refl }
+table-is-series = record { entries = refl; one = refl; two = refl; next = weights-next; last = refl; same = weights-at }
 
 -- ---- the fill
 

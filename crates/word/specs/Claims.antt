@@ -9,7 +9,7 @@ use Prim.Native.Nat.{ℕ, suc, _+_, _-_, _≤_, _<_}
 use lib.Dec.{T}
 use lib.ListN.{length, getD, replicate}
 use Rattle.cells.specs.Cells.{number}
-use Rattle.word.specs.Word.{sum, sparse, legal, legalWord, zeckendorf}
+use Rattle.word.specs.Word.{weight, sum, sparse, legal, legalWord, zeckendorf}
 use Rattle.word.specs.Fill.{fill, read, capacity, setBeforeLast, fit, put, clear, kept, wellFormed}
 use Rattle.word.specs.Weights.{weights}
 use Rattle.word.specs.Answer.{result, ifLegal, encodeAnswer, decodeAnswer}
@@ -31,13 +31,15 @@ pub record OneLegalWord : Type 0 where
 pub record LegalAccepted : Type 0 where
   pub exactly : (w y x : ℕ) → (ifLegal w y ≡ result x) ↔ (T (legalWord w) × (x ≡ y))
 
--- The table of weights is the series: 46 entries, 1 and 2, and each later one the sum of the two before it, up to 2971215073.
+-- The table of weights is the series: 46 entries, 1 and 2, and each later one the sum of the two before it, up to 2971215073. Entry k is
+-- weight number k + 1, by which sums are defined.
 pub record TableIsSeries : Type 0 where
   pub entries : length weights ≡ 46
   pub one : getD weights 0 0 ≡ 1
   pub two : getD weights 1 0 ≡ 2
   pub next : (k : ℕ) → suc (suc k) < 46 → getD weights (suc (suc k)) 0 ≡ getD weights (suc k) 0 + getD weights k 0
   pub last : getD weights 45 0 ≡ 2971215073
+  pub same : (k : ℕ) → k < 46 → getD weights k 0 ≡ weight (suc k)
 
 -- The fill keeps set cells, sets no neighbours, and cannot set one more cell: a word without neighbours that keeps the filled word's
 -- cells is the filled word. Over any number of cells.
