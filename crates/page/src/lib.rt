@@ -2,9 +2,10 @@
 //
 // Each operation takes byte slices of every length and has no `requires`. It answers by an enum of its own: a value case, and a case for
 // each refusal. The first refusal that applies, in document 01's order, is given, and a refusal writes no byte.
+mod bytes;
 mod check;
-mod first;
-mod second;
+mod first_round;
+mod second_round;
 mod words;
 
 use check::FirstCheck;
@@ -30,7 +31,7 @@ ghost use Rattle.page.specs.Answer.{
 pub enum FirstWritten {
     Done,
     PageLength,
-    RecordLength,
+    DataLength,
     NotBlank,
 }
 
@@ -60,7 +61,7 @@ pub enum Rewritten {
     State,
     Header,
     Word(u32),
-    TooLong(u32),
+    RecordLength(u32),
 }
 
 // What reading a second record gives.
@@ -83,13 +84,13 @@ pub fn write_first(page: &mut [u8], first: &[u8]) -> FirstWritten
         return FirstWritten::PageLength;
     }
     if first.len() != 176 {
-        return FirstWritten::RecordLength;
+        return FirstWritten::DataLength;
     }
-    if !words::zero_from(page, 0) {
+    if !bytes::zero_from(page, 0) {
         return FirstWritten::NotBlank;
     }
     page[0] = 1;
-    first::write_words(page, first);
+    first_round::write_words(page, first);
     FirstWritten::Done
 }
 
@@ -104,7 +105,7 @@ pub fn read_first(page: &[u8], out: &mut [u8]) -> FirstRead
             if out.len() < 176 {
                 return FirstRead::OutputLength;
             }
-            first::read_words(page, out);
+            first_round::read_words(page, out);
             FirstRead::Done
         }
         FirstCheck::PageLength => FirstRead::PageLength,
@@ -139,11 +140,11 @@ pub fn rewrite(page: &mut [u8], second: &[u8]) -> Rewritten
         FirstCheck::Passed => {
             let room = words::capacity_of(page);
             if ((room / 8) as usize) < second.len() {
-                return Rewritten::TooLong(room);
+                return Rewritten::RecordLength(room);
             }
             page[0] = 7;
             page[1] = second.len() as u8;
-            second::rewrite_words(page, second);
+            second_round::rewrite_words(page, second);
             Rewritten::Done
         }
         FirstCheck::PageLength => Rewritten::PageLength,
@@ -172,7 +173,7 @@ pub fn read_second(page: &[u8], out: &mut [u8]) -> SecondRead
         return SecondRead::Header;
     }
     let mut buffer: [u8; 132] = [0; 132];
-    let found = second::gather(page, &mut buffer);
+    let found = second_round::gather(page, &mut buffer);
     if found.words < 44 {
         return SecondRead::Word(found.words as u32);
     }
@@ -180,12 +181,12 @@ pub fn read_second(page: &[u8], out: &mut [u8]) -> SecondRead
     if found.cells < 8 * n {
         return SecondRead::DataCells;
     }
-    if !words::zero_from(&buffer, n) {
+    if !bytes::zero_from(&buffer, n) {
         return SecondRead::DataCells;
     }
     if out.len() < n {
         return SecondRead::OutputLength;
     }
-    second::copy_start(out, &buffer, n);
+    bytes::copy_start(out, &buffer, n);
     SecondRead::Length(n as u32)
 }

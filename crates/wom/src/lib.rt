@@ -51,6 +51,11 @@ const STATE: u64 = 5 << 56;
 
 const HEADER: u64 = 6 << 56;
 
+// The numbers of the two refusals that carry an index.
+const WORD: u64 = 7;
+
+const RECORD_LENGTH: u64 = 8;
+
 const DATA_CELLS: u64 = 9 << 56;
 
 const HIGH_BIT: u64 = 10 << 56;
@@ -138,7 +143,7 @@ fn pack_first_written(w: FirstWritten) -> u64
     match w {
         FirstWritten::Done => 0,
         FirstWritten::PageLength => PAGE_LENGTH,
-        FirstWritten::RecordLength => DATA_LENGTH,
+        FirstWritten::DataLength => DATA_LENGTH,
         FirstWritten::NotBlank => NOT_BLANK,
     }
 }
@@ -160,7 +165,7 @@ fn pack_first_read(f: FirstRead) -> u64
         FirstRead::PageLength => PAGE_LENGTH,
         FirstRead::State => STATE,
         FirstRead::Header => HEADER,
-        FirstRead::Word(i) => with_index(7, i),
+        FirstRead::Word(i) => with_index(WORD, i),
         FirstRead::OutputLength => OUTPUT_LENGTH,
     }
 }
@@ -182,7 +187,7 @@ fn pack_page_measured(m: page::Measured) -> u64
         page::Measured::PageLength => PAGE_LENGTH,
         page::Measured::State => STATE,
         page::Measured::Header => HEADER,
-        page::Measured::Word(i) => with_index(7, i),
+        page::Measured::Word(i) => with_index(WORD, i),
     }
 }
 
@@ -202,8 +207,8 @@ fn pack_rewritten(w: Rewritten) -> u64
         Rewritten::PageLength => PAGE_LENGTH,
         Rewritten::State => STATE,
         Rewritten::Header => HEADER,
-        Rewritten::Word(i) => with_index(7, i),
-        Rewritten::TooLong(n) => with_index(8, n),
+        Rewritten::Word(i) => with_index(WORD, i),
+        Rewritten::RecordLength(n) => with_index(RECORD_LENGTH, n),
     }
 }
 
@@ -224,7 +229,7 @@ fn pack_second_read(s: SecondRead) -> u64
         SecondRead::PageLength => PAGE_LENGTH,
         SecondRead::State => STATE,
         SecondRead::Header => HEADER,
-        SecondRead::Word(i) => with_index(7, i),
+        SecondRead::Word(i) => with_index(WORD, i),
         SecondRead::DataCells => DATA_CELLS,
         SecondRead::OutputLength => OUTPUT_LENGTH,
     }

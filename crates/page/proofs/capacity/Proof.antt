@@ -3,7 +3,8 @@
 use mathlib.Core.Path.{sym, ap, _∙_}
 use borrow.Author.Needs.{needs}
 use Rattle.word.specs.Answer.{result}
-use Rattle.page.specs.Answer.{firstCheckCode, pageCapacityAnswer}
+use Rattle.page.specs.Answer.{pageCapacityAnswer}
+use Rattle.page.specs.Steps.{firstCheckCode}
 use Rattle.page.proofs.Checks.{Checked, checked, still-refused}
 use Rattle.page.proofs.capacity.Statement.{statement}
 use Rattle.page.proofs.capacity.Tie as tie

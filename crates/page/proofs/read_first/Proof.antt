@@ -6,7 +6,8 @@ use borrow.Author.Needs.{needs}
 use borrow.Author.Tests.{lt-ltb}
 use lib.ListN.{length}
 use Rattle.word.specs.Answer.{result}
-use Rattle.page.specs.Answer.{firstCheckCode, readFirstAnswer}
+use Rattle.page.specs.Answer.{readFirstAnswer}
+use Rattle.page.specs.Steps.{firstCheckCode}
 use Rattle.page.proofs.Rounds.{long-taken}
 use Rattle.page.proofs.Checks.{refused, Checked, checked, still-refused}
 use Rattle.page.proofs.Headers.{both-refused, both-done}

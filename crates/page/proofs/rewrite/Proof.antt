@@ -7,7 +7,8 @@ use lib.ListN.{length, length-set}
 use Rattle.cells.proofs.Words.{length-putWords}
 use Rattle.word.specs.Word.{legal}
 use Rattle.page.specs.Page.{lowest}
-use Rattle.page.specs.Answer.{firstCheckCode, rewriteAnswer}
+use Rattle.page.specs.Answer.{rewriteAnswer}
+use Rattle.page.specs.Steps.{firstCheckCode}
 use Rattle.page.proofs.Checks.{Checked, checked, still-refused}
 use Rattle.page.proofs.Headers.{both-refused, both-done, header-length, header-words, room-small, outcome-set, rewrite-long, rewrite-done}
 use Rattle.page.proofs.rewrite.Statement.{statement}

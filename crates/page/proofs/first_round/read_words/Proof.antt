@@ -1,4 +1,4 @@
--- `page::first::read_words` meets its contract: before word i the values of the words before it are at the output's start.
+-- `page::first_round::read_words` meets its contract: before word i the values of the words before it are at the output's start.
 -- Assumes nothing.
 use mathlib.Core.Path.{_≡_, refl, ap, _∙_}
 use mathlib.Core.Bool.{true}
@@ -17,8 +17,8 @@ use Rattle.page.specs.Answer.{atStart}
 use Rattle.page.proofs.Loaded.{loaded-lt, loaded-cells, loaded-sparse}
 use Rattle.page.proofs.Scanning.{all-passed}
 use Rattle.page.proofs.Records.{Reading, reading-start, reading-turn}
-use Rattle.page.proofs.first.read_words.Statement.{statement}
-use Rattle.page.proofs.first.read_words.Tie as tie
+use Rattle.page.proofs.first_round.read_words.Statement.{statement}
+use Rattle.page.proofs.first_round.read_words.Tie as tie
 
 abbrev Inv-loop : tie.InvT-loop
 Inv-loop page out₀ table i₀ out i = (i ≤ 44) × (length out ≡ length out₀) × Reading page out₀ out i

@@ -1,4 +1,4 @@
--- `page::second::gather` meets its contract: before word i the words before it are well formed, and their bits are in the buffer.
+-- `page::second_round::gather` meets its contract: before word i the words before it are well formed, and their bits are in the buffer.
 -- Assumes nothing.
 use mathlib.Core.Path.{_≡_, sym, ap, _∙_, subst}
 use Prim.Native.Nat.{_+_, _≤_, _-_}
@@ -10,8 +10,8 @@ use Rattle.word.specs.Fill.{wellFormed}
 use Rattle.page.proofs.Loaded.{loaded-lt, loaded-cells}
 use Rattle.page.proofs.Scanning.{Passed, scan-failed, scan-passed}
 use Rattle.page.proofs.Gathering.{Separated, separated, read-fits, Gathering, gathering-start, gathering-length, gathering-turn}
-use Rattle.page.proofs.second.gather.Statement.{statement}
-use Rattle.page.proofs.second.gather.Tie as tie
+use Rattle.page.proofs.second_round.gather.Statement.{statement}
+use Rattle.page.proofs.second_round.gather.Tie as tie
 
 abbrev Inv-loop : tie.InvT-loop
 Inv-loop page buffer₀ at₀ i₀ buffer at i = (i ≤ 44) × (length buffer ≡ 132) × Gathering page buffer₀ buffer at i

@@ -1,4 +1,4 @@
--- `page::second::rewrite_words` meets its contract: before word i the words before it are done, and the record's bits before bit `at` are
+-- `page::second_round::rewrite_words` meets its contract: before word i the words before it are done, and the record's bits before bit `at` are
 -- in. Assumes nothing.
 use mathlib.Core.Path.{_≡_, ap, _∙_}
 use Prim.Native.Nat.{ℕ, _+_, _≤_, _-_}
@@ -12,8 +12,8 @@ use Rattle.page.specs.Page.{fillAll, putAll}
 use Rattle.page.proofs.Loaded.{FilledWord, loaded-lt}
 use Rattle.page.proofs.Scanning.{all-passed}
 use Rattle.page.proofs.Rewriting.{Rewriting, rewriting-start, put-small, rewriting-filled, rewriting-turn}
-use Rattle.page.proofs.second.rewrite_words.Statement.{statement}
-use Rattle.page.proofs.second.rewrite_words.Tie as tie
+use Rattle.page.proofs.second_round.rewrite_words.Statement.{statement}
+use Rattle.page.proofs.second_round.rewrite_words.Tie as tie
 
 abbrev Inv-loop : tie.InvT-loop
 Inv-loop page₀ second at₀ i₀ page at i = (i ≤ 44) × (length page ≡ 256) × Rewriting page₀ second page at i

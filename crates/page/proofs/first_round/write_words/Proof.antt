@@ -1,4 +1,4 @@
--- `page::first::write_words` meets its contract: before word i the words before it are in. Assumes nothing.
+-- `page::first_round::write_words` meets its contract: before word i the words before it are in. Assumes nothing.
 use mathlib.Core.Path.{_≡_, refl, ap, _∙_}
 use Prim.Native.Nat.{ℕ, _+_, _*_, _≤_, _-_}
 use native.Mathlib.Omega.{arith}
@@ -10,8 +10,8 @@ use Rattle.word.proofs.Sums.{word-lt}
 use Rattle.page.specs.Page.{firstWords}
 use Rattle.page.proofs.FirstRecord.{value-le}
 use Rattle.page.proofs.Records.{Writing, writing-start, writing-turn}
-use Rattle.page.proofs.first.write_words.Statement.{statement}
-use Rattle.page.proofs.first.write_words.Tie as tie
+use Rattle.page.proofs.first_round.write_words.Statement.{statement}
+use Rattle.page.proofs.first_round.write_words.Tie as tie
 
 abbrev Inv-loop : tie.InvT-loop
 Inv-loop page₀ first table i₀ page i = (i ≤ 44) × (length page ≡ 256) × Writing page₀ first page i
