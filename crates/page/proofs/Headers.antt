@@ -20,6 +20,7 @@ use Rattle.page.proofs.EachWord.{each-word}
 use Rattle.page.proofs.Capacities.{capacity-bounds-all}
 use Rattle.page.proofs.Scanning.{all-passed}
 use Rattle.page.proofs.Rounds.{equal-taken, long-taken}
+use Rattle.page.proofs.Acceptance.{refused-leaves, taken-leaves}
 use Rattle.page.proofs.Checks.{refused, unequal, Checked}
 
 -- ---- an answer and its buffer
@@ -27,10 +28,10 @@ use Rattle.page.proofs.Checks.{refused, unequal, Checked}
 module _ (a : Answer) (old new : List ℕ) where
   -- a refusal leaves the buffer as it was
   pub both-refused : (n i : ℕ) → a ≡ refusal n i → (refusal n i ≡ a) × (old ≡ after a old new)
-  both-refused n i e = (sym e, sym (ap (λ (x : Answer). after x old new) e))
+  both-refused n i e = (sym e, sym (refused-leaves a old new n i e))
 
   pub both-done : (x : ℕ) (now : List ℕ) → a ≡ result x → now ≡ new → (result x ≡ a) × (now ≡ after a old new)
-  both-done x now e s = (sym e, s ∙ sym (ap (λ (y : Answer). after y old new) e))
+  both-done x now e s = (sym e, s ∙ sym (taken-leaves a old new x e))
 
 -- ---- write first
 
@@ -81,7 +82,7 @@ unfolding outcomeOf
 outcome-set P bs n h =
     ap₂ (λ (p : List ℕ) (ws : List (List Bool)). putWords p (putAll (fillAll ws) (bits bs))) (header-set P 7 (length bs) h) (header-words P 7 (length bs) n)
 
--- the capacity of a page whose words are legal fits a byte's number of bytes
+-- the capacity of a page whose words are legal is at most 1012, so a record that fits has a length below 256
 pub room-small : (P : List ℕ) → Checked P → capacityAll (pageWords P 44) ≤ 1012
 room-small P k =
     let ws = pageWords P 44 in

@@ -1,5 +1,5 @@
 -- The refusals of read second, in their order. Assumes nothing.
-use mathlib.Core.Path.{_≡_, refl, sym, ap, _∙_}
+use mathlib.Core.Path.{_≡_, sym, ap, _∙_}
 use mathlib.Core.Bool.{Bool, true, false, not, _||_}
 use mathlib.Core.List.{List}
 use Prim.Native.Nat.{ℕ, _*_, _≤_, _<_}
@@ -16,7 +16,7 @@ use Rattle.page.specs.Answer.{refuse, refuseWord, ifSecondRound, readSec
 use Rattle.page.proofs.Lowest.{lowest-le}
 use Rattle.page.proofs.Rounds.{equal-taken, neither-taken, long-taken}
 use Rattle.page.proofs.Checks.{refused, unequal, either, word-refused, words-pass}
-use Rattle.page.proofs.Buffers.{buffer-spare, buffer-record, read-most}
+use Rattle.page.proofs.Buffers.{not-not, buffer-spare, buffer-record, read-most}
 
 -- what the data cells of a page hold
 abbrev found : List ℕ → List Bool
@@ -99,11 +99,7 @@ module _ (P out buffer : List ℕ) (n : ℕ) (f : Found P buffer n) where
         ap not
         (eb ∙ ap (λ (l : List ℕ). zeros (drop (byte1 P) l)) (f .held)
         ∙ buffer-spare 132 (byte1 P) (found P) (omega (arith, f .sized, read-most (pageWords P 44) (Words-pageWords P 44 (omega (arith, f .sized))), length-pageWords P 44)))
-        ∙ twice (someSet (drop (8 * byte1 P) (found P)))
-      where
-        twice : (t : Bool) → not (not t) ≡ t
-        twice true = refl
-        twice false = refl
+        ∙ not-not (someSet (drop (8 * byte1 P) (found P)))
 
     pub second-spare : not b ≡ true → readSecondAnswer P out ≡ refusal 9 0
     second-spare t = formed ∙ either (ltb (length (found P)) (8 * byte1 P)) (someSet (drop (8 * byte1 P) (found P))) 9 0 _ (sym spare ∙ t)

@@ -11,7 +11,7 @@ use Rattle.cells.specs.Cells.{number, cells}
 use Rattle.cells.specs.Bytes.{bits, bytes, Bytes}
 use Rattle.cells.specs.Words.{wordAt, pageWords, putWords}
 use Rattle.word.specs.Word.{sum, legal, zeckendorf}
-use Rattle.word.specs.Fill.{fill, read, capacity, put, wellFormed}
+use Rattle.word.specs.Fill.{fill, read, capacity, setBeforeLast, put, wellFormed}
 
 -- byte 0 is the state: 00 blank, 01 first round, 07 second round
 abbrev pub state : List ℕ → ℕ
@@ -64,6 +64,12 @@ fillAll (w ∷ ws) = fill w ∷ fillAll ws
 unfoldable pub capacityAll : List (List Bool) → ℕ
 capacityAll [] = 0
 capacityAll (w ∷ ws) = capacity w + capacityAll ws
+
+-- the number of data cells of filled words. "A separator is a set cell of a filled word. A data cell is the cell right after a separator in
+-- the same word": a word has one for each set cell but one in cell 45
+unfoldable pub dataCellsAll : List (List Bool) → ℕ
+dataCellsAll [] = 0
+dataCellsAll (w ∷ ws) = setBeforeLast w + dataCellsAll ws
 
 -- what the data cells of words hold, word 0 first; each word starts afresh
 unfoldable pub readAll : List (List Bool) → List Bool
