@@ -93,8 +93,8 @@ pub record FirstRefusals (P : List ℕ) (a : Answer) : Type 0 where
 
 -- Demand 1. Each operation accepts exactly the pages and records that the rules describe, of every length, and ends. Everything else it
 -- refuses by the number in the document, without relying on a prior check, and a refused call writes no byte of any buffer.
--- (This is about the page operations; what is accepted of words is in word/specs/Claims.antt, `LegalAccepted`. The contracts have no
--- `requires`, and a proved function returns. Buffers that are only read cannot be written, by their type.)
+-- (This is about the page operations; word/specs/Claims.antt has the same for words, `LegalAccepted`. The contracts have no `requires`, and
+-- a proved function returns. Buffers that are only read cannot be written, by their type.)
 pub record Demand1 : Type 0 where
   -- "accepts exactly"
   pub write-first : (P D : List ℕ) (v : ℕ) → (writeFirstAnswer P D ≡ result v) ↔ ((P ≡ blank) × (length D ≡ 176) × (v ≡ 0))
