@@ -1,19 +1,30 @@
 #include "plain.h"
 
+/* ---- Words ------------------------------------------------------------- */
+
 static const uint32_t weights[46] = {
-    1, 2, 3, 5, 8, 13, 21, 34, 55, 89, 144, 233, 377, 610, 987, 1597, 2584, 4181, 6765, 10946, 17711, 28657, 46368, 75025, 121393,
-    196418, 317811, 514229, 832040, 1346269, 2178309, 3524578, 5702887, 9227465, 14930352, 24157817, 39088169, 63245986, 102334155,
-    165580141, 267914296, 433494437, 701408733, 1134903170, 1836311903, 2971215073u
+    1,          2,          3,          5,          8,          13,
+    21,         34,         55,         89,         144,        233,
+    377,        610,        987,        1597,       2584,       4181,
+    6765,       10946,      17711,      28657,      46368,      75025,
+    121393,     196418,     317811,     514229,     832040,     1346269,
+    2178309,    3524578,    5702887,    9227465,    14930352,   24157817,
+    39088169,   63245986,   102334155,  165580141,  267914296,  433494437,
+    701408733,  1134903170, 1836311903, 2971215073u,
 };
 
 /* The cell that is the bit worth 2 to the n. */
-static unsigned cell(uint64_t word, int n) {
+static unsigned cell(uint64_t word, int n)
+{
     return (word >> n) & 1;
 }
 
-uint64_t plain_encode_word(uint32_t value) {
+uint64_t plain_encode_word(uint32_t value)
+{
     uint64_t word = 0;
-    for (int n = 45; n >= 0; n--) {
+    int n;
+
+    for (n = 45; n >= 0; n--) {
         word *= 2;
         if (weights[n] <= value) {
             value -= weights[n];
@@ -23,40 +34,46 @@ uint64_t plain_encode_word(uint32_t value) {
     return word;
 }
 
-uint64_t plain_decode_word(uint64_t word) {
+uint64_t plain_decode_word(uint64_t word)
+{
     uint64_t sum = 0;
-    if (word >> 46) {
+    int n;
+
+    if (word >> 46)
         return (uint64_t)10 << 56;
-    }
-    for (int n = 45; n >= 0; n--) {
-        if (cell(word, n) && n > 0 && cell(word, n - 1)) {
+    for (n = 45; n >= 0; n--) {
+        if (cell(word, n) && n > 0 && cell(word, n - 1))
             return (uint64_t)11 << 56;
-        }
-        if (cell(word, n)) {
+        if (cell(word, n))
             sum += weights[n];
-        }
     }
     return sum > UINT32_MAX ? (uint64_t)12 << 56 : sum;
 }
 
 /* Of a legal word. */
-static uint64_t fill(uint64_t word) {
+static uint64_t fill(uint64_t word)
+{
     unsigned left = 0;
-    for (int n = 45; n >= 0; n--) {
+    int n;
+
+    for (n = 45; n >= 0; n--) {
         unsigned right = n > 0 ? cell(word, n - 1) : 0;
-        if (!left && !cell(word, n) && !right) {
+
+        if (!left && !cell(word, n) && !right)
             word |= (uint64_t)1 << n;
-        }
         left = cell(word, n);
     }
     return word;
 }
 
 /* Of a filled word. */
-static unsigned count_data_cells(uint64_t filled) {
+static unsigned count_data_cells(uint64_t filled)
+{
     unsigned count = 0;
     int awaited = 0;
-    for (int n = 45; n >= 0; n--) {
+    int n;
+
+    for (n = 45; n >= 0; n--) {
         if (awaited) {
             count++;
             awaited = 0;
@@ -67,133 +84,165 @@ static unsigned count_data_cells(uint64_t filled) {
     return count;
 }
 
-uint64_t plain_fill_word(uint64_t word) {
+uint64_t plain_fill_word(uint64_t word)
+{
     uint64_t refused = plain_decode_word(word);
+
     return refused >> 56 ? refused : fill(word);
 }
 
-uint64_t plain_word_capacity(uint64_t word) {
+uint64_t plain_word_capacity(uint64_t word)
+{
     uint64_t filled = plain_fill_word(word);
+
     return filled >> 56 ? filled : count_data_cells(filled);
 }
 
-/* Pages. The cells start in byte 3, the highest bit of a byte first; a word lies in six or seven bytes. */
+/* ---- Pages ------------------------------------------------------------- */
 
-enum { PAGE = 256, HEADER = 3, WORDS = 44, CELLS = 46, FIRST_RECORD = 176, LONGEST_RECORD = 126 };
-enum { FIRST_ROUND = 0x01, SECOND_ROUND = 0x07 };
+/* The cells start in byte 3, the highest bit of a byte first; a word lies in
+ * six or seven bytes. */
+#define PAGE 256
+#define HEADER 3
+#define WORDS 44
+#define CELLS 46
+#define FIRST_RECORD 176
+#define LONGEST_RECORD 126
 
-static uint64_t refuse(unsigned number, uint64_t index) {
+#define FIRST_ROUND 0x01
+#define SECOND_ROUND 0x07
+
+static uint64_t refuse(unsigned number, uint64_t index)
+{
     return (uint64_t)number << 56 | index;
 }
 
-static uint64_t load_word(const uint8_t *page, int w) {
-    int first = 8 * HEADER + CELLS * w, last = first + CELLS - 1;
+static uint64_t load_word(const uint8_t *page, int w)
+{
+    int first = 8 * HEADER + CELLS * w;
+    int last = first + CELLS - 1;
     uint64_t word = 0;
-    for (int i = first / 8; i <= last / 8; i++) {
+    int i;
+
+    for (i = first / 8; i <= last / 8; i++)
         word = word << 8 | page[i];
-    }
     return word >> (7 - last % 8) & (((uint64_t)1 << CELLS) - 1);
 }
 
 /* Only sets cells: those of the page are among those of the word. */
-static void store_word(uint8_t *page, int w, uint64_t word) {
-    int first = 8 * HEADER + CELLS * w, last = first + CELLS - 1;
+static void store_word(uint8_t *page, int w, uint64_t word)
+{
+    int first = 8 * HEADER + CELLS * w;
+    int last = first + CELLS - 1;
+    int i;
+
     word <<= 7 - last % 8;
-    for (int i = last / 8; i >= first / 8; i--) {
+    for (i = last / 8; i >= first / 8; i--) {
         page[i] |= (uint8_t)word;
         word >>= 8;
     }
 }
 
-static unsigned record_bit(const uint8_t *record, unsigned n) {
+static uint32_t load_value(const uint8_t *bytes)
+{
+    return (uint32_t)bytes[0] << 24 | (uint32_t)bytes[1] << 16 |
+           (uint32_t)bytes[2] << 8 | bytes[3];
+}
+
+static unsigned record_bit(const uint8_t *record, unsigned n)
+{
     return (record[n / 8] >> (7 - n % 8)) & 1;
 }
 
-uint64_t plain_write_first(uint8_t *page, size_t page_length, const uint8_t *data, size_t data_length) {
-    if (page_length != PAGE) {
+uint64_t plain_write_first(uint8_t *page, size_t page_length,
+                           const uint8_t *data, size_t data_length)
+{
+    int i, w;
+
+    if (page_length != PAGE)
         return refuse(1, 0);
-    }
-    if (data_length != FIRST_RECORD) {
+    if (data_length != FIRST_RECORD)
         return refuse(2, 0);
-    }
-    for (int i = 0; i < PAGE; i++) {
-        if (page[i] != 0) {
+    for (i = 0; i < PAGE; i++)
+        if (page[i] != 0)
             return refuse(4, 0);
-        }
-    }
-    for (int w = 0; w < WORDS; w++) {
-        const uint8_t *d = data + 4 * w;
-        store_word(page, w, plain_encode_word((uint32_t)d[0] << 24 | (uint32_t)d[1] << 16 | (uint32_t)d[2] << 8 | d[3]));
-    }
+    for (w = 0; w < WORDS; w++)
+        store_word(page, w, plain_encode_word(load_value(data + 4 * w)));
     page[0] = FIRST_ROUND;
     return 0;
 }
 
 /* 0 for a first-round page. */
-static uint64_t check_first_round(const uint8_t *page, size_t page_length) {
-    if (page_length != PAGE) {
+static uint64_t check_first_round(const uint8_t *page, size_t page_length)
+{
+    int w;
+
+    if (page_length != PAGE)
         return refuse(1, 0);
-    }
-    if (page[0] != FIRST_ROUND) {
+    if (page[0] != FIRST_ROUND)
         return refuse(5, 0);
-    }
-    if (page[1] != 0 || page[2] != 0) {
+    if (page[1] != 0 || page[2] != 0)
         return refuse(6, 0);
-    }
-    for (int w = 0; w < WORDS; w++) {
-        if (plain_decode_word(load_word(page, w)) >> 56) {
-            return refuse(7, w);
-        }
-    }
+    for (w = 0; w < WORDS; w++)
+        if (plain_decode_word(load_word(page, w)) >> 56)
+            return refuse(7, (uint64_t)w);
     return 0;
 }
 
-uint64_t plain_read_first(const uint8_t *page, size_t page_length, uint8_t *out, size_t out_length) {
+uint64_t plain_read_first(const uint8_t *page, size_t page_length,
+                          uint8_t *out, size_t out_length)
+{
     uint64_t refused = check_first_round(page, page_length);
-    if (refused) {
+    int w;
+
+    if (refused)
         return refused;
-    }
-    if (out_length < FIRST_RECORD) {
+    if (out_length < FIRST_RECORD)
         return refuse(3, 0);
-    }
-    for (int w = 0; w < WORDS; w++) {
+    for (w = 0; w < WORDS; w++) {
         uint32_t value = (uint32_t)plain_decode_word(load_word(page, w));
-        out[4 * w] = value >> 24;
-        out[4 * w + 1] = value >> 16;
-        out[4 * w + 2] = value >> 8;
-        out[4 * w + 3] = value;
+
+        out[4 * w] = (uint8_t)(value >> 24);
+        out[4 * w + 1] = (uint8_t)(value >> 16);
+        out[4 * w + 2] = (uint8_t)(value >> 8);
+        out[4 * w + 3] = (uint8_t)value;
     }
     return 0;
 }
 
-uint64_t plain_page_capacity(const uint8_t *page, size_t page_length) {
-    uint64_t refused = check_first_round(page, page_length), capacity = 0;
-    if (refused) {
+uint64_t plain_page_capacity(const uint8_t *page, size_t page_length)
+{
+    uint64_t refused = check_first_round(page, page_length);
+    uint64_t capacity = 0;
+    int w;
+
+    if (refused)
         return refused;
-    }
-    for (int w = 0; w < WORDS; w++) {
+    for (w = 0; w < WORDS; w++)
         capacity += count_data_cells(fill(load_word(page, w)));
-    }
     return capacity;
 }
 
-uint64_t plain_rewrite(uint8_t *page, size_t page_length, const uint8_t *record, size_t record_length) {
+uint64_t plain_rewrite(uint8_t *page, size_t page_length,
+                       const uint8_t *record, size_t record_length)
+{
     uint64_t capacity = plain_page_capacity(page, page_length);
-    unsigned next = 0, bits;
-    if (capacity >> 56) {
+    unsigned next = 0;
+    unsigned bits;
+    int w, n;
+
+    if (capacity >> 56)
         return capacity;
-    }
-    if (record_length > capacity / 8) {
+    if (record_length > capacity / 8)
         return refuse(8, capacity);
-    }
     bits = 8 * (unsigned)record_length;
-    for (int w = 0; w < WORDS; w++) {
-        uint64_t filled = fill(load_word(page, w)), word = filled;
-        for (int c = 45; c > 0 && next < bits; c--) {
-            if (cell(filled, c)) {
-                word |= (uint64_t)record_bit(record, next++) << (c - 1);
-            }
-        }
+    for (w = 0; w < WORDS; w++) {
+        uint64_t filled = fill(load_word(page, w));
+        uint64_t word = filled;
+
+        for (n = 45; n > 0 && next < bits; n--)
+            if (cell(filled, n))
+                word |= (uint64_t)record_bit(record, next++) << (n - 1);
         store_word(page, w, word);
     }
     page[0] = SECOND_ROUND;
@@ -202,60 +251,65 @@ uint64_t plain_rewrite(uint8_t *page, size_t page_length, const uint8_t *record,
 }
 
 /* Whether the fill could set no further cell. */
-static int is_full(uint64_t separators) {
+static int is_full(uint64_t separators)
+{
     unsigned left = 0;
-    for (int c = 45; c >= 0; c--) {
-        unsigned right = c > 0 ? cell(separators, c - 1) : 0;
-        if (!left && !cell(separators, c) && !right) {
+    int n;
+
+    for (n = 45; n >= 0; n--) {
+        unsigned right = n > 0 ? cell(separators, n - 1) : 0;
+
+        if (!left && !cell(separators, n) && !right)
             return 0;
-        }
-        left = cell(separators, c);
+        left = cell(separators, n);
     }
     return 1;
 }
 
-uint64_t plain_read_second(const uint8_t *page, size_t page_length, uint8_t *out, size_t out_length) {
+uint64_t plain_read_second(const uint8_t *page, size_t page_length,
+                           uint8_t *out, size_t out_length)
+{
     uint8_t record[LONGEST_RECORD] = {0};
-    unsigned next = 0, spare = 0, bits;
-    if (page_length != PAGE) {
+    unsigned next = 0;
+    unsigned spare = 0;
+    unsigned bits, i;
+    int w, n;
+
+    if (page_length != PAGE)
         return refuse(1, 0);
-    }
-    if (page[0] != SECOND_ROUND) {
+    if (page[0] != SECOND_ROUND)
         return refuse(5, 0);
-    }
-    if (page[1] > LONGEST_RECORD || page[2] != 0) {
+    if (page[1] > LONGEST_RECORD || page[2] != 0)
         return refuse(6, 0);
-    }
     bits = 8 * page[1];
-    for (int w = 0; w < WORDS; w++) {
-        uint64_t word = load_word(page, w), separators = 0;
-        for (int c = 45; c >= 0; c--) {
-            if (cell(word, c)) {
-                separators |= (uint64_t)1 << c;
-                c--;
-                if (c >= 0) {
-                    unsigned bit = cell(word, c);
-                    if (next < bits) {
-                        record[next / 8] |= bit << (7 - next % 8);
-                    } else {
-                        spare |= bit;
-                    }
-                    next++;
-                }
-            }
+    for (w = 0; w < WORDS; w++) {
+        uint64_t word = load_word(page, w);
+        uint64_t separators = 0;
+
+        for (n = 45; n >= 0; n--) {
+            unsigned bit;
+
+            if (!cell(word, n))
+                continue;
+            separators |= (uint64_t)1 << n;
+            n--;
+            if (n < 0)
+                break;
+            bit = cell(word, n);
+            if (next < bits)
+                record[next / 8] |= (uint8_t)(bit << (7 - next % 8));
+            else
+                spare |= bit;
+            next++;
         }
-        if (!is_full(separators)) {
-            return refuse(7, w);
-        }
+        if (!is_full(separators))
+            return refuse(7, (uint64_t)w);
     }
-    if (bits > next || spare) {
+    if (bits > next || spare)
         return refuse(9, 0);
-    }
-    if (out_length < page[1]) {
+    if (out_length < page[1])
         return refuse(3, 0);
-    }
-    for (unsigned i = 0; i < page[1]; i++) {
+    for (i = 0; i < page[1]; i++)
         out[i] = record[i];
-    }
     return page[1];
 }

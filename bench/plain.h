@@ -1,6 +1,10 @@
-/* The word and page operations in plain C, loops over the cells: what the library's instruction counts are held against. */
+/*
+ * plain.h - the word and page operations in plain C, loops over the cells: what
+ * the library's instruction counts are held against
+ */
 #ifndef PLAIN_H
 #define PLAIN_H
+
 #include <stddef.h>
 #include <stdint.h>
 
@@ -9,10 +13,14 @@ uint64_t plain_decode_word(uint64_t word);
 uint64_t plain_fill_word(uint64_t word);
 uint64_t plain_word_capacity(uint64_t word);
 
-uint64_t plain_write_first(uint8_t *page, size_t page_length, const uint8_t *data, size_t data_length);
-uint64_t plain_read_first(const uint8_t *page, size_t page_length, uint8_t *out, size_t out_length);
+uint64_t plain_write_first(uint8_t *page, size_t page_length,
+                           const uint8_t *data, size_t data_length);
+uint64_t plain_read_first(const uint8_t *page, size_t page_length,
+                          uint8_t *out, size_t out_length);
 uint64_t plain_page_capacity(const uint8_t *page, size_t page_length);
-uint64_t plain_rewrite(uint8_t *page, size_t page_length, const uint8_t *record, size_t record_length);
-uint64_t plain_read_second(const uint8_t *page, size_t page_length, uint8_t *out, size_t out_length);
+uint64_t plain_rewrite(uint8_t *page, size_t page_length,
+                       const uint8_t *record, size_t record_length);
+uint64_t plain_read_second(const uint8_t *page, size_t page_length,
+                           uint8_t *out, size_t out_length);
 
-#endif
+#endif /* PLAIN_H */

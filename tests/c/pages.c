@@ -1,21 +1,40 @@
 /*
  * Test of the five page functions of wom.h.
  *
- *     pages          run all checks; exit status 0 when none is wrong, else 1
- *     pages plant    the same with one wrong expectation planted, so that the
- *                    test is seen to fail: exit status 1
+ *     pages               run all checks; exit status 0 when none is wrong,
+ *                         else 1
+ *     pages plant KIND    the literal pages alone, with one wrong expectation
+ *                         of that kind, so that the test is seen to fail: exit
+ *                         status 1
  *
- * Every call is made on the library and on the plain reference of reference.h,
- * with equal buffers and guard bytes on both sides of each. Compared are the
- * answers and every byte of every buffer and guard; a refused call must leave
- * each byte as it was. Where the answer or the bytes are known beforehand, they
- * are held against literal values as well.
+ * Every call is made on the plain reference of reference.h and three times on
+ * the library, with equal buffers: with guard bytes on both sides of each
+ * buffer, with each right after inaccessible memory, and with each right before
+ * it. Compared are the answers and every byte of every buffer and guard; a
+ * refused call must leave each byte as it was, and no byte outside the buffers
+ * may be touched. Where the answer or the bytes are known beforehand, they are
+ * held against literal values as well.
+ *
+ * Kinds: answer     an answer of the reference
+ *        bytes      the bytes that the reference leaves
+ *        kept       bytes that are only read, or not written when refused
+ *        guard      the guard bytes
+ *        cleared    no cell cleared
+ *        before     no byte touched before a buffer
+ *        after      no byte touched after a buffer
+ *        literal    an answer known beforehand
+ *        page       a page known beforehand
  */
+#define _DEFAULT_SOURCE /* mmap and its flags, sigaction, sigsetjmp */
+
 #include <inttypes.h>
+#include <setjmp.h>
+#include <signal.h>
 #include <stdint.h>
 #include <stdio.h>
 #include <stdlib.h>
 #include <string.h>
+#include <sys/mman.h>
 
 #include "reference.h"
 #include "testing.h"
@@ -86,20 +105,68 @@ static int writes_page(enum operation operation)
     return operation == WRITE_FIRST || operation == REWRITE;
 }
 
-/* ---- Buffers with guards ----------------------------------------------- */
+/* ---- Touching inaccessible memory -------------------------------------- */
+
+static sigjmp_buf before_call;
+static volatile sig_atomic_t in_library;
+
+/* Anywhere else than in the library, the program ends by the signal. */
+static void on_fault(int number)
+{
+    if (in_library)
+        siglongjmp(before_call, 1);
+    signal(number, SIG_DFL);
+}
+
+static void catch_faults(void)
+{
+    struct sigaction action;
+
+    memset(&action, 0, sizeof action);
+    action.sa_handler = on_fault;
+    action.sa_flags = SA_NODEFER; /* the handler may be left by a jump */
+    if (sigaction(SIGSEGV, &action, NULL) != 0 ||
+        sigaction(SIGBUS, &action, NULL) != 0) {
+        perror("pages: sigaction");
+        exit(2);
+    }
+}
+
+/* Calls the library. False when it touched inaccessible memory: then there is
+ * no answer. */
+static int try_library(enum operation operation, uint8_t *page,
+                       size_t page_length, uint8_t *other, size_t other_length,
+                       uint64_t *answer)
+{
+    if (sigsetjmp(before_call, 0) != 0) {
+        in_library = 0;
+        return 0;
+    }
+    in_library = 1;
+    *answer = call_library(operation, page, page_length, other, other_length);
+    in_library = 0;
+    return 1;
+}
+
+#define NO_ANSWER UINT64_MAX /* refusal 255 */
+
+/* ---- Buffers ----------------------------------------------------------- */
 
 #define GUARD 64
 #define ALIGNMENTS 8
+#define FENCE ((size_t)1 << 16) /* a multiple of the system's page size */
 
 /* A buffer as it was, as the library left it and as the reference left it. It
  * lies at 'start', with a guard before and after it. The guards differ from run
- * to run, so that an answer that depends on them is found out. */
+ * to run, so that an answer that depends on them is found out. 'fenced' has
+ * LONG_RECORD bytes between inaccessible ones. */
 struct buffer {
     uint8_t before[GUARD + ALIGNMENTS + LONG_RECORD + GUARD];
     uint8_t library[GUARD + ALIGNMENTS + LONG_RECORD + GUARD];
     uint8_t reference[GUARD + ALIGNMENTS + LONG_RECORD + GUARD];
     size_t start;
     size_t length;
+    uint8_t *fenced;
 };
 
 static struct buffer page_buffer;
@@ -124,8 +191,42 @@ static void set_up(struct buffer *buffer, const uint8_t *bytes, size_t length,
         memcpy(buffer->before + buffer->start, bytes, length);
     for (i = end_of(buffer); i < whole; i++)
         buffer->before[i] = (uint8_t)(guard + 29 * i);
-    memcpy(buffer->library, buffer->before, whole);
     memcpy(buffer->reference, buffer->before, whole);
+}
+
+/* The buffer as it was, for the library; null where asked for. */
+static uint8_t *put_between_guards(struct buffer *buffer, int null)
+{
+    memcpy(buffer->library, buffer->before, end_of(buffer) + GUARD);
+    return null ? NULL : buffer->library + buffer->start;
+}
+
+static void make_fenced(struct buffer *buffer)
+{
+    uint8_t *whole = mmap(NULL, FENCE + LONG_RECORD + FENCE, PROT_NONE,
+                          MAP_PRIVATE | MAP_ANONYMOUS, -1, 0);
+
+    if (whole == MAP_FAILED || mprotect(whole + FENCE, LONG_RECORD,
+                                        PROT_READ | PROT_WRITE) != 0) {
+        perror("pages: memory between inaccessible memory");
+        exit(2);
+    }
+    buffer->fenced = whole + FENCE;
+}
+
+/* The buffer as it was, right after or right before inaccessible memory. */
+static uint8_t *put_after_fence(struct buffer *buffer)
+{
+    memcpy(buffer->fenced, buffer->before + buffer->start, buffer->length);
+    return buffer->fenced;
+}
+
+static uint8_t *put_before_fence(struct buffer *buffer)
+{
+    uint8_t *bytes = buffer->fenced + LONG_RECORD - buffer->length;
+
+    memcpy(bytes, buffer->before + buffer->start, buffer->length);
+    return bytes;
 }
 
 static int guards_kept(const struct buffer *buffer)
@@ -136,19 +237,20 @@ static int guards_kept(const struct buffer *buffer)
            memcmp(buffer->library + end, buffer->before + end, GUARD) == 0;
 }
 
-static int kept(const struct buffer *buffer)
+static int as_before(const struct buffer *buffer, const uint8_t *bytes)
 {
-    return memcmp(buffer->library + buffer->start,
-                  buffer->before + buffer->start, buffer->length) == 0;
+    return memcmp(bytes, buffer->before + buffer->start, buffer->length) == 0;
 }
 
-static int as_reference(const struct buffer *buffer)
+static int as_reference(const struct buffer *buffer, const uint8_t *bytes)
 {
-    return memcmp(buffer->library + buffer->start,
-                  buffer->reference + buffer->start, buffer->length) == 0;
+    const uint8_t *expected = buffer->reference + buffer->start;
+
+    return memcmp(bytes, expected, buffer->length) == 0;
 }
 
-/* What the library left of the page and of the other buffer in the last run. */
+/* What the library left of the page and of the other buffer in the last run,
+ * between guards. */
 static const uint8_t *page_left(void)
 {
     return page_buffer.library + page_buffer.start;
@@ -161,19 +263,25 @@ static const uint8_t *other_left(void)
 
 /* ---- Running and checking ---------------------------------------------- */
 
-static const char *part = ""; /* of the test, for the reports */
+/* For the reports: the part of the test, where the buffers lie, the last
+ * call. */
+static const char *part = "";
+static const char *where = "";
 static enum operation last_operation;
+static size_t last_page_length;
+static size_t last_other_length;
 
 static void show_last_call(void)
 {
     const uint8_t *page = page_buffer.before + page_buffer.start;
 
     fprintf(stderr, "%s: %s, page of %zu bytes", part, names[last_operation],
-            page_buffer.length);
-    if (page_buffer.length >= HEADER)
+            last_page_length);
+    if (last_page_length == page_buffer.length && last_page_length >= HEADER)
         fprintf(stderr, " (%02x %02x %02x ...)", page[0], page[1], page[2]);
     if (last_operation != PAGE_CAPACITY)
-        fprintf(stderr, ", other of %zu bytes", other_buffer.length);
+        fprintf(stderr, ", other of %zu bytes", last_other_length);
+    fprintf(stderr, "%s", where);
 }
 
 /* Checks that the last call gave this answer, all 64 bits of it. */
@@ -198,60 +306,140 @@ static void check_fact(const char *fact, int holds)
     }
 }
 
-/* One call, by the library and by the reference, and every check that needs no
- * further knowledge. An empty buffer is given as null where asked for. */
-static uint64_t run_once(enum operation operation,
-                         const uint8_t *page, size_t page_length,
-                         const uint8_t *other, size_t other_length,
-                         int page_null, int other_null)
+static int no_cell_cleared(const uint8_t *before, const uint8_t *after)
+{
+    int i;
+
+    for (i = 0; i < PAGE; i++)
+        if (before[i] & ~after[i])
+            return 0;
+    return 1;
+}
+
+/* Sets the buffers up and calls the reference; its answer. */
+static uint64_t prepare(enum operation operation,
+                        const uint8_t *page, size_t page_length,
+                        const uint8_t *other, size_t other_length)
 {
     static size_t runs;
-    uint64_t came, expected;
 
     runs++;
     set_up(&page_buffer, page, page_length, runs % ALIGNMENTS,
            runs / ALIGNMENTS);
     set_up(&other_buffer, other, other_length, runs / ALIGNMENTS % ALIGNMENTS,
            runs);
-    last_operation = operation;
-    came = call_library(
-        operation,
-        page_null ? NULL : page_buffer.library + page_buffer.start, page_length,
-        other_null ? NULL : other_buffer.library + other_buffer.start,
-        other_length);
-    expected = call_reference(
+    return call_reference(
         operation, page_buffer.reference + page_buffer.start, page_length,
         other_buffer.reference + other_buffer.start, other_length);
-    check_answer(came, expected);
-    check_fact("the page as the reference leaves it",
-               as_reference(&page_buffer));
-    check_fact("the other buffer as the reference leaves it",
-               as_reference(&other_buffer));
-    check_fact("nothing written outside the buffers",
-               guards_kept(&page_buffer) && guards_kept(&other_buffer));
-    if (wom_refusal(came) != 0)
-        check_fact("nothing written when refused",
-                   kept(&page_buffer) && kept(&other_buffer));
-    else
-        check_fact("nothing written to what is only read",
-                   kept(writes_page(operation) ? &other_buffer : &page_buffer));
+}
+
+/* Calls the library, and checks the answer; NO_ANSWER when it touched
+ * inaccessible memory. */
+static uint64_t check_call(enum operation operation, uint8_t *page,
+                           size_t page_length, uint8_t *other,
+                           size_t other_length, uint64_t expected)
+{
+    uint64_t came = NO_ANSWER;
+    int inside = try_library(operation, page, page_length, other, other_length,
+                             &came);
+
+    last_operation = operation;
+    last_page_length = page_length;
+    last_other_length = other_length;
+    check_fact("no byte touched outside the buffers", inside);
+    if (inside)
+        check_answer(came, expected);
     return came;
 }
 
-/* The same; an empty buffer is tried with a null pointer too. */
+static void run_at_fence(enum operation operation, uint8_t *page,
+                         uint8_t *other, uint64_t expected)
+{
+    if (check_call(operation, page, page_buffer.length, other,
+                   other_buffer.length, expected) == NO_ANSWER)
+        return;
+    check_fact("the page as the reference leaves it",
+               as_reference(&page_buffer, page));
+    check_fact("the other buffer as the reference leaves it",
+               as_reference(&other_buffer, other));
+}
+
+/* Calls the library with each buffer right after inaccessible memory, and with
+ * each right before it. When planted, the page lies one byte too far. */
+static void run_at_fences(enum operation operation, uint64_t expected)
+{
+    uint8_t *page = put_after_fence(&page_buffer);
+    uint8_t *other = put_after_fence(&other_buffer);
+
+    where = ", right after inaccessible memory";
+    run_at_fence(operation, page - plant_here("before"), other, expected);
+    page = put_before_fence(&page_buffer);
+    other = put_before_fence(&other_buffer);
+    where = ", right before inaccessible memory";
+    run_at_fence(operation, page + plant_here("after"), other, expected);
+    where = "";
+}
+
+/* Calls the library with buffers between guards, and makes every check that
+ * needs no further knowledge. An empty buffer is given as null where asked
+ * for. When planted, a byte of what is expected is changed. */
+static uint64_t run_between_guards(enum operation operation, uint64_t expected,
+                                   int page_null, int other_null)
+{
+    struct buffer *only_read =
+        writes_page(operation) ? &other_buffer : &page_buffer;
+    uint8_t *page = put_between_guards(&page_buffer, page_null);
+    uint8_t *other = put_between_guards(&other_buffer, other_null);
+    uint64_t came = check_call(operation, page, page_buffer.length, other,
+                               other_buffer.length,
+                               expected ^ (uint64_t)plant_here("answer"));
+
+    if (came == NO_ANSWER)
+        return NO_ANSWER;
+    page_buffer.reference[page_buffer.start] ^= plant_here("bytes");
+    check_fact("the page as the reference leaves it",
+               as_reference(&page_buffer, page_left()));
+    check_fact("the other buffer as the reference leaves it",
+               as_reference(&other_buffer, other_left()));
+    page_buffer.before[end_of(&page_buffer)] ^= plant_here("guard");
+    check_fact("nothing written outside the buffers",
+               guards_kept(&page_buffer) && guards_kept(&other_buffer));
+    only_read->before[only_read->start] ^= plant_here("kept");
+    if (wom_refusal(came) != 0)
+        check_fact("nothing written when refused",
+                   as_before(&page_buffer, page_left()) &&
+                       as_before(&other_buffer, other_left()));
+    else
+        check_fact("nothing written to what is only read",
+                   as_before(only_read,
+                             only_read->library + only_read->start));
+    if (wom_refusal(came) == 0 && operation == REWRITE) {
+        page_buffer.before[page_buffer.start + 2] ^= plant_here("cleared");
+        check_fact("no cell cleared",
+                   no_cell_cleared(page_buffer.before + page_buffer.start,
+                                   page_left()));
+    }
+    return came;
+}
+
+/* One call, by the reference and, with buffers in each place, by the library;
+ * an empty buffer is tried with a null pointer too. */
 static uint64_t run(enum operation operation,
                     const uint8_t *page, size_t page_length,
                     const uint8_t *other, size_t other_length)
 {
+    uint64_t expected =
+        prepare(operation, page, page_length, other, other_length);
     int other_may_be_null = other_length == 0 && operation != PAGE_CAPACITY;
 
+    run_at_fences(operation, expected);
     if (page_length == 0)
-        run_once(operation, page, page_length, other, other_length, 1, 0);
+        run_between_guards(operation, expected, 1, 0);
     if (other_may_be_null)
-        run_once(operation, page, page_length, other, other_length, 0, 1);
+        run_between_guards(operation, expected, 0, 1);
     if (page_length == 0 && other_may_be_null)
-        run_once(operation, page, page_length, other, other_length, 1, 1);
-    return run_once(operation, page, page_length, other, other_length, 0, 0);
+        run_between_guards(operation, expected, 1, 1);
+    return run_between_guards(operation, expected, 0, 0);
 }
 
 /* The same, with an answer that is known beforehand. */
@@ -427,15 +615,20 @@ static int put_texts(uint8_t *page, int place, const char *text, int times)
     return place;
 }
 
-static void check_page_left(const uint8_t expected[PAGE])
+/* When planted, the last cell is expected to be another. */
+static void check_page_left(const uint8_t literal[PAGE])
 {
+    uint8_t expected[PAGE];
+
+    memcpy(expected, literal, PAGE);
+    expected[PAGE - 1] ^= plant_here("page");
     check_fact("the literal page", memcmp(page_left(), expected, PAGE) == 0);
 }
 
 /* 176 zero bytes: no cell set; filled, every even cell. The longest record, of
  * ones, sets every cell but the last four data cells. When planted, the page
  * is expected to have the capacity that a fill from cell 45 downward gives. */
-static void check_page_of_zeros(int planted)
+static void check_page_of_zeros(void)
 {
     uint8_t data[FIRST_RECORD] = {0};
     uint8_t ones[LONGEST_RECORD + 1];
@@ -450,7 +643,7 @@ static void check_page_of_zeros(int planted)
     check_page_left(first);
     expect(READ_FIRST, first, PAGE, out, FIRST_RECORD, 0);
     check_fact("176 zero bytes", memcmp(other_left(), data, FIRST_RECORD) == 0);
-    expect_capacity(first, planted ? 22 * WORDS : 1012);
+    expect_capacity(first, plant_here("literal") ? 22 * WORDS : 1012);
 
     expect(REWRITE, first, PAGE, ones, 127, refused_at(8, 1012));
     expect(REWRITE, first, PAGE, ones, 126, 0);
@@ -566,11 +759,11 @@ static void check_no_byte_and_zero_byte(const uint8_t first[PAGE])
     check_fact("one zero byte", other_left()[0] == 0);
 }
 
-static void check_examples(int planted)
+static void check_examples(void)
 {
     uint8_t page[PAGE];
 
-    check_page_of_zeros(planted);
+    check_page_of_zeros();
     check_page_of_least_capacity();
     check_mixed_page();
     make_page_of_value(page, 0);
@@ -900,31 +1093,150 @@ static void check_lengths(void)
     }
 }
 
-/* Records of some megabytes, and one whose number of bits is 0 in 32 bits. The
- * bytes of the latter are not compared: that would bring it all into memory. */
+/* Records of some megabytes. */
 static void check_long_records(void)
 {
     static const size_t lengths[] = {65536, 1000003, LONG_RECORD - 1,
                                      LONG_RECORD};
-    size_t longest = (size_t)1 << 29;
-    uint8_t *record = calloc(longest, 1);
+    static const uint8_t record[LONG_RECORD];
     uint8_t page[PAGE];
-    uint8_t before[PAGE];
     size_t i;
 
     part = "long records";
     make_mixed_page(page);
-    check_fact("memory for a long record", record != NULL);
-    if (record == NULL)
-        return;
     for (i = 0; i < sizeof lengths / sizeof lengths[0]; i++)
         expect(REWRITE, page, PAGE, record, lengths[i],
                refused_at(8, MIXED_CAPACITY));
-    memcpy(before, page, PAGE);
-    check_answer(wom_rewrite(page, PAGE, record, longest),
-                 refused_at(8, MIXED_CAPACITY));
-    check_fact("page unchanged", memcmp(page, before, PAGE) == 0);
-    free(record);
+}
+
+/* ---- Huge buffers ------------------------------------------------------ */
+
+#define TWO_TO(n) (UINT64_C(1) << (n))
+
+/* Lengths whose lowest 32 bits, or those of 8 times the length, are small; and
+ * lengths up to what an address space may hold. */
+static const uint64_t huge_lengths[] = {
+    TWO_TO(29),
+    TWO_TO(29) + 1,
+    TWO_TO(32),
+    TWO_TO(32) + 1,
+    TWO_TO(32) + BASE_RECORD,
+    TWO_TO(32) + FIRST_RECORD,
+    TWO_TO(32) + PAGE,
+    TWO_TO(40),
+    TWO_TO(44),
+    TWO_TO(46),
+    TWO_TO(47),
+};
+
+#define HUGE_LENGTHS ((int)(sizeof huge_lengths / sizeof huge_lengths[0]))
+#define ACCESSIBLE 4096 /* bytes at the start of a huge output */
+
+/* Inaccessible memory of that length, which costs nothing; or null. */
+static uint8_t *make_huge(uint64_t length)
+{
+    void *bytes;
+
+    if (length > SIZE_MAX)
+        return NULL;
+    bytes = mmap(NULL, (size_t)length, PROT_NONE,
+                 MAP_PRIVATE | MAP_ANONYMOUS | MAP_NORESERVE, -1, 0);
+    return bytes == MAP_FAILED ? NULL : bytes;
+}
+
+/* A page of a huge length: refused, and no byte of it touched. */
+static void check_huge_page(enum operation operation, uint8_t *huge,
+                            size_t length)
+{
+    uint8_t *other = put_between_guards(&other_buffer, 0);
+
+    check_call(operation, huge, length, other, other_buffer.length, refused(1));
+    check_fact("nothing written when refused", as_before(&other_buffer, other));
+}
+
+/* Data or a record of a huge length: refused, and no byte of it touched. */
+static void check_huge_input(enum operation operation, const uint8_t *page,
+                             uint8_t *huge, size_t length, uint64_t refusal)
+{
+    uint8_t *bytes;
+
+    set_up(&page_buffer, page, PAGE, 0, 0);
+    bytes = put_between_guards(&page_buffer, 0);
+    check_call(operation, bytes, PAGE, huge, length, refusal);
+    check_fact("nothing written when refused", as_before(&page_buffer, bytes));
+}
+
+/* An output of a huge length: its first bytes receive the record, and no byte
+ * after those is touched. */
+static void check_huge_output(enum operation operation, const uint8_t *page,
+                              uint8_t *huge, size_t length,
+                              const uint8_t *record, size_t record_length,
+                              uint64_t result)
+{
+    uint8_t rest[ACCESSIBLE];
+    uint8_t *bytes;
+
+    set_up(&page_buffer, page, PAGE, 0, 0);
+    bytes = put_between_guards(&page_buffer, 0);
+    memset(rest, 0x99, ACCESSIBLE);
+    memcpy(huge, rest, ACCESSIBLE);
+    check_call(operation, bytes, PAGE, huge, length, result);
+    check_fact("the record", memcmp(huge, record, record_length) == 0);
+    check_fact("the rest unchanged",
+               memcmp(huge + record_length, rest,
+                      ACCESSIBLE - record_length) == 0);
+    check_fact("nothing written to what is only read",
+               as_before(&page_buffer, bytes));
+}
+
+static void check_huge_buffers_of(uint8_t *huge, size_t length)
+{
+    uint8_t data[FIRST_RECORD];
+    uint8_t record[BASE_RECORD];
+    uint8_t first[PAGE];
+    uint8_t second[PAGE];
+    int operation;
+
+    data_of_values(data, mixed_values, MIXED_VALUES);
+    count_up(record, BASE_RECORD);
+    make_mixed_page(first);
+    make_mixed_second_round(second);
+
+    set_up(&other_buffer, data, FIRST_RECORD, 0, 0);
+    for (operation = 0; operation < OPERATIONS; operation++)
+        check_huge_page((enum operation)operation, huge, length);
+    check_huge_input(WRITE_FIRST, blank_page, huge, length, refused(2));
+    check_huge_input(WRITE_FIRST, first, huge, length, refused(2));
+    check_huge_input(REWRITE, first, huge, length,
+                     refused_at(8, MIXED_CAPACITY));
+    check_huge_input(REWRITE, second, huge, length, refused(5));
+
+    if (mprotect(huge, ACCESSIBLE, PROT_READ | PROT_WRITE) != 0) {
+        perror("pages: accessible memory");
+        exit(2);
+    }
+    check_huge_output(READ_FIRST, first, huge, length, data, FIRST_RECORD, 0);
+    check_huge_output(READ_SECOND, second, huge, length, record, BASE_RECORD,
+                      BASE_RECORD);
+}
+
+/* By the library alone. A length that the system does not give is left out. */
+static void check_huge_buffers(void)
+{
+    int tried = 0;
+    int i;
+
+    part = "huge buffers";
+    for (i = 0; i < HUGE_LENGTHS; i++) {
+        uint8_t *huge = make_huge(huge_lengths[i]);
+
+        if (huge == NULL)
+            continue;
+        tried++;
+        check_huge_buffers_of(huge, (size_t)huge_lengths[i]);
+        munmap(huge, (size_t)huge_lengths[i]);
+    }
+    printf("pages: %d of %d huge lengths tried\n", tried, HUGE_LENGTHS);
 }
 
 /* ---- The header of a page ---------------------------------------------- */
@@ -1229,7 +1541,7 @@ static void check_flipped_second_round(const uint8_t first[PAGE], int length)
 
     part = "a cell of a second-round page";
     memcpy(page, first, PAGE);
-    count_up(record, length);
+    count_up(record, LONGEST_RECORD);
     memset(out, 0x99, sizeof out);
     make_second_round(page, record, (size_t)length);
     capacity = places_of_page(page, place);
@@ -1280,16 +1592,32 @@ static void random_bytes(uint8_t *bytes, size_t length)
 
 enum { UNIFORM, SMALL, SPARSE, EXTREME, VALUE_KINDS };
 
+static uint32_t random_small_value(void)
+{
+    unsigned shift = 32 + random_below(32);
+
+    return (uint32_t)(random_bits() >> shift);
+}
+
+/* The sum of one or two weights. */
+static uint32_t random_sparse_value(void)
+{
+    uint64_t sum = weight[2 + random_below(44)];
+
+    if (random_below(2))
+        sum += weight[2 + random_below(44)];
+    return (uint32_t)sum;
+}
+
 static uint32_t random_value(int kind)
 {
     switch (kind) {
     case UNIFORM:
         return (uint32_t)random_bits();
     case SMALL:
-        return (uint32_t)(random_bits() >> (32 + random_below(32)));
-    case SPARSE: /* at most two set cells, as the sum of two weights */
-        return (uint32_t)(weight[2 + random_below(44)] +
-                          random_below(2) * weight[2 + random_below(44)]);
+        return random_small_value();
+    case SPARSE:
+        return random_sparse_value();
     default:
         return mixed_values[random_below(MIXED_VALUES)];
     }
@@ -1330,16 +1658,6 @@ static void random_record(uint8_t *record, size_t length)
     }
 }
 
-static int no_cell_cleared(const uint8_t *before, const uint8_t *after)
-{
-    int i;
-
-    for (i = 0; i < PAGE; i++)
-        if (before[i] & ~after[i])
-            return 0;
-    return 1;
-}
-
 /* Writes a record over a first-round page, and reads it back into outputs of
  * exact length, longer and one byte short, whatever these held. */
 static void check_second_round(const uint8_t first[PAGE], const uint8_t *record,
@@ -1351,7 +1669,6 @@ static void check_second_round(const uint8_t first[PAGE], const uint8_t *record,
 
     expect(REWRITE, first, PAGE, record, length, 0);
     memcpy(second, page_left(), PAGE);
-    check_fact("no cell cleared", no_cell_cleared(first, second));
     check_fact("state 07, the length, 0",
                second[0] == SECOND_ROUND && second[1] == length &&
                    second[2] == 0);
@@ -1582,18 +1899,20 @@ static void check_damaged_pages(void)
 
 int main(int argc, char **argv)
 {
-    int planted = argc == 2 && strcmp(argv[1], "plant") == 0;
+    int planted = take_arguments("pages", argc, argv);
 
-    if (argc > 1 && !planted) {
-        fprintf(stderr, "usage: pages [plant]\n");
-        return 2;
-    }
     build_weights();
+    catch_faults();
+    make_fenced(&page_buffer);
+    make_fenced(&other_buffer);
     check_constants();
-    check_examples(planted);
+    check_examples();
+    if (planted)
+        return finish("pages");
     check_orders();
     check_lengths();
     check_long_records();
+    check_huge_buffers();
     check_states();
     check_first_round_header();
     check_second_round_header();
@@ -1606,6 +1925,5 @@ int main(int argc, char **argv)
     check_flipped_second_rounds();
     check_random_pages();
     check_damaged_pages();
-    printf("pages: %lu checks, %lu wrong\n", checks, wrong);
-    return wrong == 0 ? 0 : 1;
+    return finish("pages");
 }

@@ -1,7 +1,11 @@
 #include "testing.h"
 
-unsigned long checks;
-unsigned long wrong;
+#include <stdio.h>
+#include <stdlib.h>
+#include <string.h>
+
+static unsigned long checks;
+static unsigned long wrong;
 
 int count_check(int right)
 {
@@ -11,6 +15,42 @@ int count_check(int right)
     wrong++;
     return wrong <= MISMATCHES_SHOWN;
 }
+
+/* ---- Plants ------------------------------------------------------------ */
+
+static const char *plant; /* the kind, until a check has taken it */
+
+int take_arguments(const char *program, int argc, char **argv)
+{
+    if (argc == 1)
+        return 0;
+    if (argc == 3 && strcmp(argv[1], "plant") == 0) {
+        plant = argv[2];
+        return 1;
+    }
+    fprintf(stderr, "usage: %s [plant KIND]\n", program);
+    exit(2);
+}
+
+int plant_here(const char *kind)
+{
+    if (plant == NULL || strcmp(plant, kind) != 0)
+        return 0;
+    plant = NULL;
+    return 1;
+}
+
+int finish(const char *program)
+{
+    printf("%s: %lu checks, %lu wrong\n", program, checks, wrong);
+    if (plant != NULL) {
+        fprintf(stderr, "%s: no check of the kind '%s'\n", program, plant);
+        return 2;
+    }
+    return wrong == 0 ? 0 : 1;
+}
+
+/* ---- Random bits ------------------------------------------------------- */
 
 static uint64_t random_state;
 

@@ -1,9 +1,15 @@
 /*
  * Test of the four word functions of wom.h.
  *
- *     words          run all checks; exit status 0 when none is wrong, else 1
- *     words plant    the same with one wrong expectation planted, so that the
- *                    test is seen to fail: exit status 1
+ *     words               run all checks; exit status 0 when none is wrong,
+ *                         else 1
+ *     words plant KIND    the same with one wrong expectation of that kind, so
+ *                         that the test is seen to fail: exit status 1
+ *
+ * Kinds: literal   an answer known beforehand
+ *        refusal   a refusal
+ *        answer    an answer of the reference
+ *        cleared   no cell cleared
  *
  * The functions are held against literal lists of cells and against the plain
  * reference of reference.h, which works on arrays of cells.
@@ -11,7 +17,6 @@
 #include <inttypes.h>
 #include <stdint.h>
 #include <stdio.h>
-#include <string.h>
 
 #include "reference.h"
 #include "testing.h"
@@ -108,8 +113,10 @@ static uint64_t word_of_list(const int list[LIST])
     return word;
 }
 
-/* The library, and the reference too, against one literal example. */
-static void check_example(const struct example *example, unsigned capacity)
+/* The library, and the reference too, against one literal example. When
+ * planted, value 0 is expected to have the capacity that a fill from cell 45
+ * downward would give. */
+static void check_example(const struct example *example)
 {
     uint32_t value = example->value;
     uint64_t word = word_of_list(example->cells);
@@ -118,7 +125,8 @@ static void check_example(const struct example *example, unsigned capacity)
     check("wom_encode_word", value, wom_encode_word(value), word);
     check("wom_decode_word", word, wom_decode_word(word), value);
     check("wom_fill_word", word, wom_fill_word(word), filled);
-    check("wom_word_capacity", word, wom_word_capacity(word), capacity);
+    check("wom_word_capacity", word, wom_word_capacity(word),
+          example->capacity - (unsigned)plant_here("literal"));
 
     check("reference_encode", value, reference_encode(value), word);
     check("reference_decode", word, reference_decode(word), value);
@@ -127,19 +135,12 @@ static void check_example(const struct example *example, unsigned capacity)
           example->capacity);
 }
 
-/* When planted, value 0 is expected to have the capacity that a fill from cell
- * 45 downward would give. */
-static void check_examples(int planted)
+static void check_examples(void)
 {
     size_t i;
 
-    for (i = 0; i < EXAMPLES; i++) {
-        unsigned capacity = examples[i].capacity;
-
-        if (planted && examples[i].value == 0)
-            capacity = 22;
-        check_example(&examples[i], capacity);
-    }
+    for (i = 0; i < EXAMPLES; i++)
+        check_example(&examples[i]);
 }
 
 /* The word of value 0, filled and written with 23 ones: all 46 cells set, and
@@ -190,7 +191,8 @@ static void check_answer_helpers(void)
 /* Decode, fill and capacity alike refuse the word, with index 0. */
 static void check_refused(uint64_t word, unsigned number)
 {
-    check("wom_decode_word", word, wom_decode_word(word), refused(number));
+    check("wom_decode_word", word, wom_decode_word(word),
+          refused(number + (unsigned)plant_here("refusal")));
     check("wom_fill_word", word, wom_fill_word(word), refused(number));
     check("wom_word_capacity", word, wom_word_capacity(word), refused(number));
 }
@@ -199,7 +201,7 @@ static void check_refused(uint64_t word, unsigned number)
 static void check_against_reference(uint64_t word)
 {
     check("wom_decode_word", word, wom_decode_word(word),
-          reference_decode(word));
+          reference_decode(word) ^ (uint64_t)plant_here("answer"));
     check("wom_fill_word", word, wom_fill_word(word), reference_fill(word));
     check("wom_word_capacity", word, wom_word_capacity(word),
           reference_capacity(word));
@@ -249,16 +251,18 @@ static void check_sums(void)
 
 /* ---- Random values and words ------------------------------------------- */
 
-/* Facts that hold of every legal word. */
+/* Facts that hold of every legal word. When planted, the bit above cell 0 is
+ * expected to be kept as if it had been set. */
 static void check_facts(uint64_t word)
 {
+    uint64_t set = word | (uint64_t)plant_here("cleared") << CELLS;
     uint64_t filled = wom_fill_word(word);
     uint64_t capacity = wom_word_capacity(word);
     int cell[CELLS];
 
     cells_of_word(filled, cell);
     check_fact("wom_fill_word", word, filled, "no cell cleared",
-               (word & ~filled) == 0);
+               (set & ~filled) == 0);
     check_fact("wom_fill_word", word, filled, "no neighbours",
                !has_neighbours(cell));
     check_fact("wom_fill_word", word, filled, "no further cell can be set",
@@ -363,21 +367,15 @@ static void check_random_words(void)
 
 int main(int argc, char **argv)
 {
-    int planted = argc == 2 && strcmp(argv[1], "plant") == 0;
-
-    if (argc > 1 && !planted) {
-        fprintf(stderr, "usage: words [plant]\n");
-        return 2;
-    }
+    take_arguments("words", argc, argv);
     build_weights();
     check_answer_helpers();
-    check_examples(planted);
+    check_examples();
     check_written_with_ones();
     check_high_bits();
     check_neighbours();
     check_sums();
     check_random_values();
     check_random_words();
-    printf("words: %lu checks, %lu wrong\n", checks, wrong);
-    return wrong == 0 ? 0 : 1;
+    return finish("words");
 }

@@ -1,0 +1,51 @@
+/*
+ * passes.h - what the two bench programs share
+ *
+ *     NAME REPEATS    makes the calls of one operation REPEATS times over
+ *                     (bench/run counts the instructions)
+ *     no argument     compares the library with the plain functions on the same
+ *                     calls; exit status 0 when nothing differs, else 1
+ */
+#ifndef PASSES_H
+#define PASSES_H
+
+#include <stdint.h>
+#include <stdio.h>
+#include <stdlib.h>
+#include <string.h>
+
+/* The operation `nothing` comes first; then each of the library, and the plain
+ * one after it. */
+struct operation {
+    const char *name;
+    uint64_t (*call)(int i); /* on value or page i */
+};
+
+/* The next state of a simple generator; its high bits are pseudo-random. */
+static uint64_t next_state(uint64_t state)
+{
+    return state * UINT64_C(6364136223846793005) +
+           UINT64_C(1442695040888963407);
+}
+
+/* Makes one call for each of 'count' values or pages, 'repeats' times over, and
+ * prints the sum of the answers. The exit status: 2 for an unknown name. */
+static int make_passes(const struct operation *operations, int length,
+                       const char *name, int repeats, int count)
+{
+    uint64_t sum = 0;
+    int k, i;
+
+    for (k = 0; k < length; k++)
+        if (strcmp(operations[k].name, name) == 0)
+            break;
+    if (k == length)
+        return 2;
+    for (; repeats > 0; repeats--)
+        for (i = 0; i < count; i++)
+            sum += operations[k].call(i);
+    printf("%llu\n", (unsigned long long)sum);
+    return 0;
+}
+
+#endif /* PASSES_H */
