@@ -105,8 +105,8 @@ pub record FirstRoundOf (n size : ℕ) (page : List ℕ) : Type 0 where
   pub byte2-zero : byte2 page ≡ 0
   pub words-legal : (i : ℕ) → i < n → T (legal (wordAt page i))
 
--- a page that read second accepts, given output enough (document 01 has no term for it): state 07, byte 1 at most 126, byte 2 at 0, all words well formed, data cells enough
--- for the record, the spare ones 0
+-- a page that read second accepts, given output enough (document 01 has no term for it): state 07, byte 1 at most `most`, for document 01
+-- 126, byte 2 at 0, all words well formed, data cells enough for the record, the spare ones 0
 pub record SecondRoundOf (n size most : ℕ) (page : List ℕ) : Type 0 where
   pub sized : length page ≡ size
   pub of-bytes : Bytes page
