@@ -26,6 +26,7 @@ ghost use Rattle.page.specs.Answer.{
   rewrittenCode,
   secondReadCode,
 };
+ghost use Rattle.page.specs.Page.{isBlank};
 
 // What writing a first record gives.
 pub enum FirstWritten {
@@ -73,6 +74,16 @@ pub enum SecondRead {
     Word(u32),
     DataCells,
     OutputLength,
+}
+
+// Whether bytes of any number are a blank page.
+pub fn is_blank(page: &[u8]) -> bool
+    ensures { λ r. ⌜ r ≡ isBlank 256 (now (page .entry)) ⌝ }
+{
+    if page.len() != 256 {
+        return false;
+    }
+    bytes::zero_from(page, 0)
 }
 
 // Write first: turns a blank page into a first-round page that holds a record of 176 bytes.

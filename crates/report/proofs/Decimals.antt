@@ -1,0 +1,59 @@
+-- Numbers in decimal: the last digit apart from the others, and how many there are. Assumes nothing.
+use mathlib.Core.Path.{_≡_, refl, sym, ap, _∙_}
+use mathlib.Core.Bool.{Bool, true, false, cond}
+use mathlib.Core.List.{List, [], _∷_, _++_}
+use Prim.Native.Nat.{ℕ, zero, suc, _+_, _*_, _/_, _%_, _^_, _≤_, _<_}
+use native.Mathlib.Nat.{pow-suc}
+use native.Mathlib.Omega.{arith}
+use borrow.Author.Tests.{ltb-true, ltb-false, lt-ltb, le-ltb}
+use lib.Dec.{ltb}
+use lib.ListN.{length, length-append}
+use Rattle.report.specs.Lines.{digits, decimal}
+
+-- a number below 10 is its digit
+digits-below : (k n : ℕ) → n < 10 → digits k n ≡ (48 + n) ∷ []
+unfolding digits
+digits-below zero n h = ap (λ (d : ℕ). (48 + d) ∷ []) (omega (arith, h))
+digits-below (suc k) n h = rw (lt-ltb n 10 h) refl
+
+-- any other is the digits of a tenth of it, and the last
+digits-from : (k n : ℕ) → 10 ≤ n → digits (suc k) n ≡ digits k (n / 10) ++ (48 + n % 10) ∷ []
+unfolding digits
+digits-from k n h = rw (le-ltb n 10 h) refl
+
+-- no digit is left out where k is the number or more
+digits-enough : (k m n : ℕ) → n ≤ k → n ≤ m → digits k n ≡ digits m n
+digits-enough zero m n hk hm = digits-below zero n (omega arith) ∙ sym (digits-below m n (omega arith))
+digits-enough (suc k) zero n hk hm = digits-below (suc k) n (omega arith) ∙ sym (digits-below zero n (omega arith))
+digits-enough (suc k) (suc m) n hk hm = go (ltb n 10) refl (digits-enough k m (n / 10))
+  where
+    go : (b : Bool) → ltb n 10 ≡ b → (n / 10 ≤ k → n / 10 ≤ m → digits k (n / 10) ≡ digits m (n / 10)) → digits (suc k) n ≡ digits (suc m) n
+    go true e r = digits-below (suc k) n (ltb-true n 10 e) ∙ sym (digits-below (suc m) n (ltb-true n 10 e))
+    go false e r =
+        let h = ltb-false n 10 e in
+        digits-from k n h ∙ ap (λ (l : List ℕ). l ++ (48 + n % 10) ∷ []) (r (omega arith) (omega arith)) ∙ sym (digits-from m n h)
+
+pub decimal-below : (n : ℕ) → n < 10 → decimal n ≡ (48 + n) ∷ []
+unfolding decimal
+decimal-below n h = digits-below n n h
+
+pub decimal-from : (n : ℕ) → 10 ≤ n → decimal n ≡ decimal (n / 10) ++ (48 + n % 10) ∷ []
+unfolding decimal
+decimal-from zero h = absurd (omega arith)
+decimal-from (suc k) h = digits-from k (suc k) h ∙ ap (λ (l : List ℕ). l ++ (48 + suc k % 10) ∷ []) (digits-enough k (suc k / 10) (suc k / 10) (omega arith) (omega arith))
+
+pub decimal-longer : (n : ℕ) → 10 ≤ n → length (decimal n) ≡ length (decimal (n / 10)) + 1
+decimal-longer n h = ap length (decimal-from n h) ∙ length-append (decimal (n / 10)) ((48 + n % 10) ∷ [])
+
+-- a number below 10 to the power k + 1 has at most k + 1 digits
+decimal-short : (k n : ℕ) → n < 10 ^ suc k → length (decimal n) ≤ suc k
+decimal-short zero n h = rw (decimal-below n (omega (arith, h))) omega arith
+decimal-short (suc k) n h = go (ltb n 10) refl (decimal-short k (n / 10))
+  where
+    go : (b : Bool) → ltb n 10 ≡ b → (n / 10 < 10 ^ suc k → length (decimal (n / 10)) ≤ suc k) → length (decimal n) ≤ suc (suc k)
+    go true e r = rw (decimal-below n (ltb-true n 10 e)) omega arith
+    go false e r = omega (arith, decimal-longer n (ltb-false n 10 e), r (omega (arith, h, pow-suc 10 (suc k))))
+
+-- a number of 32 bits has at most 10 digits
+pub decimal-32 : (n : ℕ) → n < 2 ^ 32 → length (decimal n) ≤ 10
+decimal-32 n h = decimal-short 9 n (omega (arith, h))

@@ -1,0 +1,4 @@
+-- The laws of kinds and lines.
+pub mod Deciding
+pub mod Decimals
+pub mod Storing

@@ -1,0 +1,131 @@
+use Prim.Native.Nat.{ℕ, _+_, _/_, _%_, _<_}
+use borrow.Fn.Kinds.{In}
+use borrow.Fn.PlainCycle.{Measures, is, falls, and}
+use mathlib.Core.Path.{_≡_, sym, ap, _∙_}
+use mathlib.Core.List.{List}
+use native.Mathlib.Omega.{arith}
+use lib.ListN.{length, set}
+use lib.Seq.{sets}
+use Rattle.report.specs.Lines.{decimal}
+use Rattle.report.proofs.Decimals.{decimal-below, decimal-from, decimal-longer}
+use Rattle.report.proofs.Storing.{sets-snoc}
+use Rattle.report.proofs.lines.put_decimal.Reads as put-decimal
+use Rattle.report.proofs.lines.put_decimal.Kinds as put-decimal-kinds
+use Rattle.report.proofs.lines.+put_decimal.Lts-put_decimal as put-decimal-lts
+use Rattle.report.proofs.lines.+put_decimal.{statement}
+use Rattle.report.proofs.lines.+put_decimal.Tie.{close}
+
+below : (n : ℕ) → n < 10 → length (decimal n) ≡ 1
+below n h = ap length (decimal-below n h)
+
+abbrev μ-put-decimal : Measures 1 put-decimal-kinds.ps ℕ
+μ-put-decimal κs a = a .1 .1 .0
+
+abbrev put-decimal-at : ℕ → In 1 put-decimal-kinds.ps
+put-decimal-at t =
+    and 1 put-decimal-kinds.ps (is 1 put-decimal-kinds.ps μ-put-decimal t) put-decimal.Pre
+
+abbrev put-decimal-below : ℕ → In 1 put-decimal-kinds.ps
+put-decimal-below t =
+    and 1 put-decimal-kinds.ps (falls 1 put-decimal-kinds.ps _<_ μ-put-decimal t) put-decimal.Pre
+
+put-decimal-add-line : (t : ℕ) → put-decimal-lts.Need-add-line (
+  put-decimal-below t,
+  put-decimal.Post,
+) (put-decimal-at t) put-decimal.Post
+put-decimal-add-line t c = omega arith
+
+put-decimal-cast-line : (t : ℕ) → put-decimal-lts.Need-cast-line (
+  put-decimal-below t,
+  put-decimal.Post,
+) (put-decimal-at t) put-decimal.Post
+put-decimal-cast-line t c = omega arith
+
+put-decimal-element-write-line : (t : ℕ) → put-decimal-lts.Need-element-write-line (
+  put-decimal-below t,
+  put-decimal.Post,
+) (put-decimal-at t) put-decimal.Post
+put-decimal-element-write-line t c = omega (arith, c .before .pre .1, below (c .before .args .n) (c .if1 .taken))
+
+put-decimal-add-result : (t : ℕ) → put-decimal-lts.Need-add-result (
+  put-decimal-below t,
+  put-decimal.Post,
+) (put-decimal-at t) put-decimal.Post
+put-decimal-add-result t c = omega (arith, c .before .pre .1)
+
+put-decimal-returns : (t : ℕ) → put-decimal-lts.Need-returns (
+  put-decimal-below t,
+  put-decimal.Post,
+) (put-decimal-at t) put-decimal.Post
+put-decimal-returns t c =
+    let e = decimal-below (c .before .args .n) (c .if1 .taken) in
+    (ap (λ (l : List ℕ). c .before .args .at + length l) (sym e), ap (sets (c .before .args .line .now) (c .before .args .at)) (sym e))
+
+put-decimal-put-decimal-requires : (t : ℕ) → put-decimal-lts.Need-put-decimal-requires (
+  put-decimal-below t,
+  put-decimal.Post,
+) (put-decimal-at t) put-decimal.Post
+put-decimal-put-decimal-requires t c κs =
+    let s = c .before .before in
+    let h = c .before .if1 .left in
+    (omega (arith, s .pre .0), omega (arith, s .pre .1, decimal-longer (s .args .n) h))
+
+put-decimal-add-line-2 : (t : ℕ) → put-decimal-lts.Need-add-line-2 (
+  put-decimal-below t,
+  put-decimal.Post,
+) (put-decimal-at t) put-decimal.Post
+put-decimal-add-line-2 t c = omega arith
+
+put-decimal-cast-line-2 : (t : ℕ) → put-decimal-lts.Need-cast-line-2 (
+  put-decimal-below t,
+  put-decimal.Post,
+) (put-decimal-at t) put-decimal.Post
+put-decimal-cast-line-2 t c = omega arith
+
+put-decimal-element-write-line-2 : (t : ℕ) → put-decimal-lts.Need-element-write-line-2 (
+  put-decimal-below t,
+  put-decimal.Post,
+) (put-decimal-at t) put-decimal.Post
+put-decimal-element-write-line-2 t c =
+    let s = c .before .before .before in
+    omega (arith, s .pre .1, c .put-decimal .ensures .0, decimal-longer (s .args .n) (c .before .before .if1 .left))
+
+put-decimal-add-result-2 : (t : ℕ) → put-decimal-lts.Need-add-result-2 (
+  put-decimal-below t,
+  put-decimal.Post,
+) (put-decimal-at t) put-decimal.Post
+put-decimal-add-result-2 t c =
+    let s = c .before .before .before in
+    omega (arith, s .pre .1, c .put-decimal .ensures .0, decimal-longer (s .args .n) (c .before .before .if1 .left))
+
+put-decimal-returns-2 : (t : ℕ) → put-decimal-lts.Need-returns-2 (
+  put-decimal-below t,
+  put-decimal.Post,
+) (put-decimal-at t) put-decimal.Post
+put-decimal-returns-2 t c =
+    let a = c .before .before .before .args in
+    let h = c .before .before .if1 .left in (
+      omega (arith, c .put-decimal .ensures .0, decimal-longer (a .n) h),
+      ap (λ (l : List ℕ). set l (c .put-decimal .result) (48 + a .n % 10)) (c .put-decimal .ensures .1)
+          ∙ sets-snoc (a .line .now) (a .at) (decimal (a .n / 10)) (48 + a .n % 10) (c .put-decimal .result) (c .put-decimal .ensures .0)
+          ∙ ap (sets (a .line .now) (a .at)) (sym (decimal-from (a .n) h)),
+    )
+
+pub +put-decimal-spec : {M : Type 1} → statement M
++put-decimal-spec = close μ-put-decimal λ t. put-decimal-lts.spec (
+  put-decimal-below t,
+  put-decimal.Post,
+)
+    (put-decimal-at t)
+    put-decimal.Post
+    (put-decimal-add-line t)
+    (put-decimal-cast-line t)
+    (put-decimal-element-write-line t)
+    (put-decimal-add-result t)
+    (put-decimal-returns t)
+    (put-decimal-put-decimal-requires t)
+    (put-decimal-add-line-2 t)
+    (put-decimal-cast-line-2 t)
+    (put-decimal-element-write-line-2 t)
+    (put-decimal-add-result-2 t)
+    (put-decimal-returns-2 t)

@@ -1,0 +1,32 @@
+-- The kind of a piece of input (document 01, "The listing program"). A piece is its list of bytes.
+-- Assumes nothing.
+use mathlib.Core.Bool.{cond, not}
+use mathlib.Core.List.{List}
+use Prim.Native.Nat.{ℕ}
+use lib.Dec.{eqb}
+use lib.ListN.{length}
+use Rattle.word.specs.Answer.{Answer, result, refusal}
+use Rattle.page.specs.Page.{state, isBlank, blankOf}
+use Rattle.page.specs.Answer.{pageCapacityAnswer, readSecondAnswer}
+use Rattle.report.specs.declared.Kind.{Kind}
+use Rattle.report.specs.declared.Kind.the-variants.{Blank, First, Second, Bad}
+
+-- a result gives the kind its number; a refusal makes the page bad, with the refusal's number
+abbrev pub kindBy : (ℕ → Kind) → Answer → Kind
+kindBy kind (result n) = kind n
+kindBy kind (refusal n i) = Bad n
+
+-- in state 00: a blank page, or one with another byte set
+abbrev pub blankKind : List ℕ → Kind
+blankKind piece = cond (isBlank 256 piece) Blank (Bad 4)
+
+-- `first` has the capacity in bits, `second` the length in bytes: what page capacity and read second answer, the latter given the output
+-- that every record fits. `bad` has 1 for a piece that is not 256 bytes, 4 for state 00 with another byte set, 5 for an unknown state, else
+-- the number by which the reader refuses
+unfoldable pub kindOf : List ℕ → Kind
+kindOf piece =
+    cond (not (eqb (length piece) 256)) (Bad 1)
+    (cond (eqb (state piece) 0) (blankKind piece)
+    (cond (eqb (state piece) 1) (kindBy First (pageCapacityAnswer piece))
+    (cond (eqb (state piece) 7) (kindBy Second (readSecondAnswer piece (blankOf 126)))
+    (Bad 5))))

@@ -1,0 +1,3 @@
+-- What a listing says of a page: its kind, and its line.
+pub mod Kinds
+pub mod Lines

@@ -1,0 +1,71 @@
+// The kind of a piece of input, by its state and by what the page's readers answer.
+use crate::Kind;
+use page::Measured;
+use page::SecondRead;
+ghost use mathlib.Core.Path.{_≡_};
+ghost use Rattle.page.specs.Answer.{measuredCode, secondReadCode, pageCapacityAnswer, readSecondAnswer};
+ghost use Rattle.page.specs.Page.{blankOf};
+ghost use Rattle.report.specs.declared.Kind.the-variants.{First, Second};
+ghost use Rattle.report.specs.Kinds.{kindBy, kindOf, blankKind};
+
+// The kind that page capacity's answer makes.
+fn kind_measured(m: Measured) -> Kind
+    ensures { λ r. ⌜ r ≡ kindBy First (measuredCode m) ⌝ }
+{
+    match m {
+        Measured::Capacity(n) => Kind::First(n),
+        Measured::PageLength => Kind::Bad(1),
+        Measured::State => Kind::Bad(5),
+        Measured::Header => Kind::Bad(6),
+        Measured::Word(_) => Kind::Bad(7),
+    }
+}
+
+// The kind that read second's answer makes.
+fn kind_read(s: SecondRead) -> Kind
+    ensures { λ r. ⌜ r ≡ kindBy Second (secondReadCode s) ⌝ }
+{
+    match s {
+        SecondRead::Length(n) => Kind::Second(n),
+        SecondRead::PageLength => Kind::Bad(1),
+        SecondRead::State => Kind::Bad(5),
+        SecondRead::Header => Kind::Bad(6),
+        SecondRead::Word(_) => Kind::Bad(7),
+        SecondRead::DataCells => Kind::Bad(9),
+        SecondRead::OutputLength => Kind::Bad(3),
+    }
+}
+
+// The kind of a page in state 07. The record is read into a buffer that every record fits, and let go.
+fn second_kind(piece: &[u8]) -> Kind
+    ensures { λ r. ⌜ r ≡ kindBy Second (readSecondAnswer (now (piece .entry)) (blankOf 126)) ⌝ }
+{
+    let mut second: [u8; 126] = [0; 126];
+    kind_read(page::read_second(piece, &mut second))
+}
+
+// The kind of a page in state 00.
+fn blank_kind(piece: &[u8]) -> Kind
+    ensures { λ r. ⌜ r ≡ blankKind (now (piece .entry)) ⌝ }
+{
+    if page::is_blank(piece) {
+        return Kind::Blank;
+    }
+    Kind::Bad(4)
+}
+
+// The kind of a piece of any length.
+pub fn kind_of(piece: &[u8]) -> Kind
+    ensures { λ r. ⌜ r ≡ kindOf (now (piece .entry)) ⌝ }
+{
+    if piece.len() != 256 {
+        return Kind::Bad(1);
+    }
+    let state = piece[0];
+    match state {
+        0 => blank_kind(piece),
+        1 => kind_measured(page::capacity(piece)),
+        7 => second_kind(piece),
+        _ => Kind::Bad(5),
+    }
+}
