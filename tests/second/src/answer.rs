@@ -1,0 +1,62 @@
+//! The answer of an operation and its layout for the C side.
+
+/// A refusal: its number, and its index (0 where none is named).
+#[derive(Clone, Copy, Debug, PartialEq, Eq)]
+pub struct Refusal {
+    pub number: u8,
+    pub index: u64,
+}
+
+/// "The answer is either the result named here or one refusal, never both."
+pub type Answer = Result<u64, Refusal>;
+
+impl Refusal {
+    pub const PAGE_LENGTH: Refusal = Refusal::plain(1);
+    pub const DATA_LENGTH: Refusal = Refusal::plain(2);
+    pub const OUTPUT_LENGTH: Refusal = Refusal::plain(3);
+    pub const NOT_BLANK: Refusal = Refusal::plain(4);
+    pub const STATE: Refusal = Refusal::plain(5);
+    pub const HEADER: Refusal = Refusal::plain(6);
+    pub const DATA_CELLS: Refusal = Refusal::plain(9);
+    pub const HIGH_BIT: Refusal = Refusal::plain(10);
+    pub const NEIGHBOURS: Refusal = Refusal::plain(11);
+    pub const SUM: Refusal = Refusal::plain(12);
+
+    const fn plain(number: u8) -> Refusal {
+        Refusal { number, index: 0 }
+    }
+
+    /// 7, with the number of the word.
+    pub fn word(index: usize) -> Refusal {
+        Refusal { number: 7, index: index as u64 }
+    }
+
+    /// 8, with the page's capacity.
+    pub fn record_length(capacity: usize) -> Refusal {
+        Refusal { number: 8, index: capacity as u64 }
+    }
+}
+
+/// The refusal's number, 0 when the answer is not a refusal.
+pub fn number(answer: Answer) -> u8 {
+    answer.map_or_else(|refusal| refusal.number, |_| 0)
+}
+
+/// The result, or the refusal's index.
+pub fn value(answer: Answer) -> u64 {
+    answer.unwrap_or_else(|refusal| refusal.index)
+}
+
+/// The answer as one number: the refusal's number in bits 56 to 63, the result or the index in bits 0 to 55.
+pub fn packed(answer: Answer) -> u64 {
+    u64::from(number(answer)) << 56 | value(answer)
+}
+
+/// `Ok` when the condition of the refusal does not hold.
+pub fn refuse_if(condition: bool, refusal: Refusal) -> Result<(), Refusal> {
+    if condition {
+        Err(refusal)
+    } else {
+        Ok(())
+    }
+}

@@ -1,0 +1,71 @@
+//! Makes the tests' files: the vectors, the listing's pages, and pages at random; and lists pages by this implementation.
+
+use second::cases::pages::any_page;
+use second::command::command;
+use second::listing::{listing, PAGES_MOST};
+use second::page::PAGE_BYTES;
+use second::random::Random;
+use second::{samples, vectors};
+use std::fs;
+use std::io::{self, Read, Write};
+use std::path::Path;
+use std::process::ExitCode;
+
+const USAGE: &str = "usage: generate vectors DIR | listing DIR | pages SEED COUNT EXTRA | list";
+
+/// Writes the two files of a test.
+fn write_test(folder: &str, input: &[u8], text: &str) -> io::Result<()> {
+    fs::create_dir_all(folder)?;
+    fs::write(Path::new(folder).join("stdin"), input)?;
+    fs::write(Path::new(folder).join("stdout"), text)
+}
+
+fn write_vectors(folder: &str) -> io::Result<()> {
+    let calls = vectors::calls();
+    write_test(folder, &vectors::input_of(&calls), &vectors::text_of(&calls))
+}
+
+fn write_listing(folder: &str) -> io::Result<()> {
+    let pages = samples::pages();
+    write_test(folder, &pages, &listing(&pages))
+}
+
+/// Writes `count` pages of any kind and `extra` further bytes to standard output.
+fn write_pages(seed: u64, count: usize, extra: u8) -> io::Result<()> {
+    let mut random = Random::new(seed);
+    let mut output = io::BufWriter::new(io::stdout().lock());
+    for _ in 0..count {
+        output.write_all(&any_page(&mut random))?;
+    }
+    output.write_all(&random.bytes(usize::from(extra)))?;
+    output.flush()
+}
+
+/// Lists standard input.
+fn list() -> io::Result<()> {
+    let mut input = Vec::new();
+    io::stdin().lock().take((PAGES_MOST * PAGE_BYTES) as u64).read_to_end(&mut input)?;
+    io::stdout().write_all(listing(&input).as_bytes())
+}
+
+/// What the arguments ask for, or nothing when they are not as the usage says.
+fn asked(arguments: &[&str]) -> Option<ExitCode> {
+    let done = match arguments {
+        ["vectors", folder] => write_vectors(folder),
+        ["listing", folder] => write_listing(folder),
+        ["pages", seed, count, extra] => write_pages(seed.parse().ok()?, count.parse().ok()?, extra.parse().ok()?),
+        ["list"] => list(),
+        _ => return None,
+    };
+    match done {
+        Ok(()) => Some(ExitCode::SUCCESS),
+        Err(error) => {
+            eprintln!("generate: {error}");
+            Some(ExitCode::FAILURE)
+        }
+    }
+}
+
+fn main() -> ExitCode {
+    command(USAGE, asked)
+}

@@ -1,0 +1,162 @@
+//! Sound calls, and calls damaged in the direction of chosen refusals, so that the order of refusals shows.
+
+use super::lengths::{resized, wrong_data_length, wrong_page_length};
+use super::pages::{any_first, any_record, blank, most_bytes, second_from, with_data_cell, with_word};
+use super::words::{any_argument, any_value, illegal, sum_too_large, with_hole, with_neighbours, Hole};
+use crate::call::{Call, Entry};
+use crate::page::{data_cells_of, words_of, FIRST_BYTES, FIRST_ROUND, PAGE_BYTES, SECOND_ROUND, WORDS};
+use crate::random::Random;
+use crate::word::{cells_of, legal_word, number_of, CELLS};
+
+/// A call that is accepted.
+pub fn sound(random: &mut Random, entry: Entry) -> Call {
+    match entry {
+        Entry::EncodeWord => Call::of_word(entry, u64::from(any_value(random))),
+        Entry::DecodeWord | Entry::FillWord | Entry::WordCapacity => {
+            Call::of_word(entry, number_of(&legal_word(any_value(random))))
+        }
+        Entry::WriteFirst => Call::of_page(entry, blank(random), random.bytes(FIRST_BYTES)),
+        Entry::ReadFirst | Entry::PageCapacity => {
+            let longer = random.below(3);
+            Call::of_page(entry, any_first(random), random.bytes(FIRST_BYTES + longer))
+        }
+        Entry::Rewrite => {
+            let page = any_first(random);
+            let length = random.between(0, most_bytes(&page));
+            Call::of_page(entry, page, any_record(random, length))
+        }
+        Entry::ReadSecond => {
+            let page = second_from(random, 1);
+            let length = usize::from(page[1]) + random.below(3);
+            Call::of_page(entry, page, random.bytes(length))
+        }
+    }
+}
+
+/// Any state but the one that the entry asks for.
+fn set_state(random: &mut Random, call: &mut Call) {
+    let asked = if call.entry == Entry::ReadSecond { SECOND_ROUND } else { FIRST_ROUND };
+    let other = random.byte();
+    let state = random.pick(&[0x00, 0x01, 0x07, 0x03, 0xFF, other]);
+    call.page[0] = if state == asked { !asked } else { state };
+}
+
+/// Byte 1 or byte 2 out of its range.
+fn set_header(random: &mut Random, call: &mut Call) {
+    if random.one_in(2) {
+        call.page[2] = random.byte_from(1);
+    } else {
+        call.page[1] = random.byte_from(if call.entry == Entry::ReadSecond { 127 } else { 1 });
+    }
+}
+
+/// A word that is not legal, or not well formed.
+fn set_word(random: &mut Random, call: &mut Call) {
+    let hole = random.pick(&Hole::ALL);
+    let cells = if call.entry == Entry::ReadSecond { with_hole(random, hole) } else { illegal(random) };
+    let page = std::mem::take(&mut call.page);
+    call.page = with_word(page, random.below(WORDS), cells);
+}
+
+/// More bytes than fit.
+fn lengthen_record(random: &mut Random, call: &mut Call) {
+    let length = most_bytes(&call.page) + 1 + random.pick(&[0, 0, 1, 40, 256]);
+    call.other = any_record(random, length);
+}
+
+/// A byte 1 too large for the data cells, where the page has so few, or else a spare data cell set.
+fn spoil_data_cells(random: &mut Random, call: &mut Call) {
+    let found = data_cells_of(&words_of(&call.page)).len();
+    let fit = found / 8;
+    if fit < 126 && random.one_in(2) {
+        call.page[1] = random.between(fit + 1, 126) as u8;
+        return;
+    }
+    // A length of 82 at most leaves a spare data cell on every page.
+    call.page[1] = call.page[1].min(82);
+    let page = std::mem::take(&mut call.page);
+    let (first, any) = (8 * usize::from(page[1]), random.below(found));
+    call.page = with_data_cell(page, random.pick(&[first, found - 1, any.max(first)]));
+}
+
+/// Damages a sound call so that it meets the condition of the refusal with this number.
+fn damage(random: &mut Random, call: &mut Call, number: u8) {
+    match number {
+        1 => call.page = wrong_page(random, &call.page),
+        2 => {
+            let length = wrong_data_length(random);
+            call.other = random.bytes(length);
+        }
+        3 => {
+            let needed = if call.entry == Entry::ReadFirst { FIRST_BYTES } else { usize::from(call.page[1]) };
+            let any = random.below(needed);
+            call.other.truncate(random.pick(&[0, needed - 1, any]));
+        }
+        4 => call.page[random.below(PAGE_BYTES)] = random.byte_from(1),
+        5 => set_state(random, call),
+        6 => set_header(random, call),
+        7 => set_word(random, call),
+        8 => lengthen_record(random, call),
+        9 => spoil_data_cells(random, call),
+        10 => call.argument |= 1 << random.between(CELLS, 63),
+        11 => {
+            let cells = with_neighbours(cells_of(call.argument), random.below(CELLS - 1));
+            call.argument = number_of(&cells);
+        }
+        _ => call.argument = number_of(&sum_too_large(random)),
+    }
+}
+
+fn wrong_page(random: &mut Random, page: &[u8]) -> Vec<u8> {
+    let length = wrong_page_length(random);
+    resized(random, page.to_vec(), length)
+}
+
+/// A call that meets the conditions of the chosen refusals of its entry: bit k of `chosen` stands for the k-th in the
+/// stated order. The last is brought about first, since an earlier one may hide what a later one needs.
+pub fn combined(random: &mut Random, entry: Entry, chosen: usize) -> Call {
+    let mut call = sound(random, entry);
+    for (place, &number) in entry.refusals().iter().enumerate().rev() {
+        if chosen >> place & 1 == 1 {
+            damage(random, &mut call, number);
+        }
+    }
+    call
+}
+
+/// The number of choices for `combined`.
+pub fn choices(entry: Entry) -> usize {
+    1 << entry.refusals().len()
+}
+
+/// A call with none, one or any of the conditions of its entry.
+pub fn any_combined(random: &mut Random, entry: Entry) -> Call {
+    let one = 1 << random.below(entry.refusals().len().max(1));
+    let any = random.below(choices(entry));
+    let chosen = random.pick(&[0, one, one, any]);
+    combined(random, entry, chosen)
+}
+
+/// A word call of any argument; encode word takes 32 bits of it.
+pub fn any_word_call(random: &mut Random, entry: Entry) -> Call {
+    let argument = any_argument(random);
+    Call::of_word(entry, if entry == Entry::EncodeWord { argument & 0xFFFF_FFFF } else { argument })
+}
+
+#[cfg(test)]
+mod tests {
+    use super::*;
+    use crate::answer::number;
+
+    #[test]
+    fn the_first_chosen_refusal_is_returned() {
+        let mut random = Random::new(2);
+        for entry in Entry::ALL {
+            for chosen in (0..choices(entry)).cycle().take(640) {
+                let expected = if chosen == 0 { 0 } else { entry.refusals()[chosen.trailing_zeros() as usize] };
+                let mut call = combined(&mut random, entry, chosen);
+                assert_eq!(number(call.perform()), expected, "{} {chosen}", entry.name());
+            }
+        }
+    }
+}

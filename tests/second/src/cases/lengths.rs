@@ -1,0 +1,73 @@
+//! The length classes of pages, data, records and outputs.
+
+use crate::call::Entry;
+use crate::page::FIRST_BYTES;
+use crate::random::Random;
+
+/// Lengths that are not a page's.
+pub const WRONG_PAGE_LENGTHS: [usize; 7] = [0, 1, 2, 3, 255, 257, 512];
+/// Lengths that are not the first record's.
+pub const WRONG_DATA_LENGTHS: [usize; 4] = [0, 175, 177, 352];
+/// Lengths that fit no page; 8 times 8,192 is 65,536.
+pub const FAR_RECORD_LENGTHS: [usize; 9] = [200, 255, 256, 257, 1_000, 8_192, 8_200, 65_536, 65_700];
+
+/// The bytes cut to the length, or followed by any bytes up to it.
+pub fn resized(random: &mut Random, mut bytes: Vec<u8>, length: usize) -> Vec<u8> {
+    bytes.truncate(length);
+    let missing = length - bytes.len();
+    bytes.extend(random.bytes(missing));
+    bytes
+}
+
+/// Any length but the exact one: of the classes, or any other.
+fn wrong_length(random: &mut Random, exact: usize, classes: &[usize]) -> usize {
+    let any = random.below(3 * exact);
+    if any == exact || random.one_in(2) {
+        random.pick(classes)
+    } else {
+        any
+    }
+}
+
+pub fn wrong_page_length(random: &mut Random) -> usize {
+    wrong_length(random, 256, &WRONG_PAGE_LENGTHS)
+}
+
+pub fn wrong_data_length(random: &mut Random) -> usize {
+    wrong_length(random, FIRST_BYTES, &WRONG_DATA_LENGTHS)
+}
+
+fn data_length(random: &mut Random) -> usize {
+    if random.one_in(4) {
+        wrong_data_length(random)
+    } else {
+        FIRST_BYTES
+    }
+}
+
+fn record_length(random: &mut Random) -> usize {
+    match random.below(16) {
+        0 => random.pick(&FAR_RECORD_LENGTHS),
+        1 => random.between(77, 86),
+        2 => random.between(120, 130),
+        _ => random.between(0, 130),
+    }
+}
+
+/// One short, exact, longer, 0, or any.
+fn output_length(random: &mut Random, needed: usize) -> usize {
+    let any = random.below(200);
+    let longer = needed + any;
+    random.pick(&[needed.saturating_sub(1), needed, needed + 1, longer, 0, any])
+}
+
+/// A length for the other buffer of a page entry.
+pub fn other_length(random: &mut Random, entry: Entry, page: &[u8]) -> usize {
+    match entry {
+        Entry::WriteFirst => data_length(random),
+        Entry::ReadFirst => output_length(random, FIRST_BYTES),
+        Entry::Rewrite => record_length(random),
+        Entry::ReadSecond => output_length(random, page.get(1).map_or(0, |&length| usize::from(length))),
+        _ => 0,
+    }
+}

@@ -1,0 +1,32 @@
+//! The making of calls, shared by the vectors and the differential run.
+
+pub mod damage;
+pub mod lengths;
+pub mod pages;
+pub mod systematic;
+pub mod words;
+
+use crate::call::{Call, Entry};
+use crate::random::Random;
+
+/// A call of any entry, valid or damaged.
+pub fn any_call(random: &mut Random) -> Call {
+    let entry = random.pick(&Entry::ALL);
+    match entry.takes_page() {
+        _ if random.one_in(2) => damage::any_combined(random, entry),
+        true => any_page_call(random, entry),
+        false => damage::any_word_call(random, entry),
+    }
+}
+
+/// A call over a page of any kind, with any length classes.
+fn any_page_call(random: &mut Random, entry: Entry) -> Call {
+    let mut page = pages::page_for(random, entry);
+    if random.one_in(16) {
+        let length = lengths::wrong_page_length(random);
+        page = lengths::resized(random, page, length);
+    }
+    let length = lengths::other_length(random, entry, &page);
+    let other = pages::any_record(random, length);
+    Call::of_page(entry, page, other)
+}

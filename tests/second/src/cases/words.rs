@@ -1,0 +1,143 @@
+//! Words for the calls: legal, damaged, well formed, and with a hole.
+
+use crate::random::Random;
+use crate::word::{cells_with_sum, legal_word, number_of, weight, Cells, CELLS, LARGEST_SUM, LARGEST_VALUE};
+
+/// The value of the word with the least capacity: "cells 0, 3, 6 up to 45".
+pub const SPARSE_VALUE: u32 = 3_889_371_024;
+
+/// The values of document 01's list.
+pub const LISTED_VALUES: [u32; 7] = [0, 1, 2, 3, 77, 243, SPARSE_VALUE];
+
+/// A value: near 0, near the largest, listed, near a weight, or anywhere.
+pub fn any_value(random: &mut Random) -> u32 {
+    match random.below(6) {
+        0 => random.below(300) as u32,
+        1 => u32::MAX - random.below(300) as u32,
+        2 => random.pick(&LISTED_VALUES),
+        3 => (weight(random.below(CELLS)) - 1) as u32 + random.below(3) as u32,
+        _ => random.draw() as u32,
+    }
+}
+
+/// A word without neighbours whose sum exceeds 4294967295, by little, by as much as can be, or by any amount.
+pub fn sum_too_large(random: &mut Random) -> Cells {
+    let excess = LARGEST_SUM - LARGEST_VALUE - 1;
+    let above = match random.below(4) {
+        0 => random.draw() % 20,
+        1 => excess - random.draw() % 20,
+        _ => random.draw() % (excess + 1),
+    };
+    cells_with_sum(LARGEST_VALUE + 1 + above)
+}
+
+/// The word with this cell and the next one set as well.
+pub fn with_neighbours(mut cells: Cells, cell: usize) -> Cells {
+    cells[cell] = true;
+    cells[cell + 1] = true;
+    cells
+}
+
+/// A word that is not legal, for either reason.
+pub fn illegal(random: &mut Random) -> Cells {
+    if random.one_in(2) {
+        return sum_too_large(random);
+    }
+    let cells = legal_word(any_value(random));
+    with_neighbours(cells, random.below(CELLS - 1))
+}
+
+/// Where the fill could still set a cell.
+#[derive(Clone, Copy, Debug)]
+pub enum Hole {
+    Start,
+    Middle,
+    End,
+}
+
+impl Hole {
+    pub const ALL: [Hole; 3] = [Hole::Start, Hole::Middle, Hole::End];
+}
+
+/// The separators of a well-formed word: the first in cell 0 or 1, each two or three cells after the one before it, the
+/// last in cell 44 or 45.
+fn separators(random: &mut Random) -> Vec<usize> {
+    let mut found = vec![random.below(2)];
+    while found[found.len() - 1] < CELLS - 2 {
+        let last = found[found.len() - 1];
+        found.push((last + random.between(2, 3)).min(CELLS - 1));
+    }
+    found
+}
+
+/// The word with these separators and any bits in their data cells.
+fn with_data(random: &mut Random, separators: &[usize]) -> Cells {
+    let mut cells = [false; CELLS];
+    for &separator in separators {
+        cells[separator] = true;
+        if separator + 1 < CELLS {
+            cells[separator + 1] = random.one_in(2);
+        }
+    }
+    cells
+}
+
+/// A well-formed word with any data.
+pub fn well_formed(random: &mut Random) -> Cells {
+    let separators = separators(random);
+    with_data(random, &separators)
+}
+
+/// A word that is not well formed: one separator of a well-formed word is missing, with its data.
+pub fn with_hole(random: &mut Random, hole: Hole) -> Cells {
+    let mut separators = separators(random);
+    let last = separators.len() - 1;
+    separators.remove(match hole {
+        Hole::Start => 0,
+        Hole::Middle => random.between(1, last - 1),
+        Hole::End => last,
+    });
+    with_data(random, &separators)
+}
+
+/// A word with no two neighbours set, of any sum.
+fn without_neighbours(random: &mut Random) -> u64 {
+    let draw = random.draw() & random.draw() & ((1 << CELLS) - 1);
+    draw & !(draw >> 1)
+}
+
+/// The argument of a word entry: legal or damaged, of any kind.
+pub fn any_argument(random: &mut Random) -> u64 {
+    let legal = number_of(&legal_word(any_value(random)));
+    let even = number_of(&cells_with_sum(LARGEST_SUM));
+    match random.below(12) {
+        0..=2 => legal,
+        3 => legal ^ 1 << random.below(CELLS),
+        4 => legal ^ 1 << random.between(CELLS, 63),
+        5 => random.draw() >> (64 - CELLS),
+        6 => random.draw(),
+        7 => without_neighbours(random),
+        8 => random.draw() % 300,
+        9 => (1u64 << 32).wrapping_add(random.draw() % 300).wrapping_sub(150),
+        10 => number_of(&cells_with_sum(LARGEST_VALUE - 10 + random.draw() % 20)),
+        _ => even ^ random.pick(&[0, 1, 2, 1 << 45, 1 << 46, 1 << 63]),
+    }
+}
+
+#[cfg(test)]
+mod tests {
+    use super::*;
+    use crate::word;
+
+    #[test]
+    fn damaged_words_are_damaged() {
+        let mut random = Random::new(1);
+        for _ in 0..2_000 {
+            assert!(!word::legal(&illegal(&mut random)));
+            assert!(word::well_formed(&well_formed(&mut random)));
+            for hole in Hole::ALL {
+                assert!(!word::well_formed(&with_hole(&mut random, hole)));
+            }
+        }
+    }
+}

@@ -1,0 +1,17 @@
+//! A second implementation of the page code, for tests only.
+//!
+//! It was written from document 01 (the exact rules) and the layout of `wom.h` alone, without sight of the first
+//! implementation. Cells are kept one by one in plain arrays: clarity counts here, not speed. On it rest the vectors
+//! and pages of `generate`, and the comparison of `differential` with the archive `libwom.a`.
+
+pub mod answer;
+pub mod call;
+pub mod cases;
+pub mod command;
+pub mod coverage;
+pub mod listing;
+pub mod page;
+pub mod random;
+pub mod samples;
+pub mod vectors;
+pub mod word;

@@ -1,0 +1,331 @@
+//! The fixed calls of the vectors, and their two files.
+
+use crate::answer::{number, value};
+use crate::call::{Call, Entry};
+use crate::cases::damage::{any_word_call, choices, combined};
+use crate::cases::lengths::{resized, FAR_RECORD_LENGTHS, WRONG_PAGE_LENGTHS};
+use crate::cases::pages::*;
+use crate::cases::words::{any_value, sum_too_large, with_hole, with_neighbours, Hole, LISTED_VALUES, SPARSE_VALUE};
+use crate::page::{data_cells_of, words_of, FIRST_BYTES, PAGE_BYTES, WORDS};
+use crate::random::Random;
+use crate::word::{cells_with_sum, legal_word, number_of, CELLS, LARGEST_SUM, LARGEST_VALUE};
+use std::fmt::Write;
+
+const SEED: u64 = 660;
+
+/// The longest buffer of a vector.
+const LENGTH_MOST: usize = 1_024;
+
+/// Words at the ends of a page, at the ends of a byte, and between.
+const INDICES: [usize; 8] = [0, 1, 3, 4, 21, 22, 42, 43];
+
+/// The value whose word has cells 0 and 45 set: the set cells of two such words touch, and are legal.
+const EDGE_VALUE: u32 = 2_971_215_074;
+
+/// The calls made so far.
+struct Script {
+    random: Random,
+    calls: Vec<Call>,
+}
+
+/// All calls of the vectors.
+pub fn calls() -> Vec<Call> {
+    let mut script = Script { random: Random::new(SEED), calls: Vec::new() };
+    script.listed_words();
+    script.listed_pages();
+    script.both_rounds();
+    script.capacities();
+    script.illegal_words();
+    script.holes();
+    script.flips();
+    script.data_cells();
+    script.headers();
+    script.lengths();
+    script.outputs();
+    script.orders();
+    script.words();
+    script.calls
+}
+
+impl Script {
+    /// Adds the call; returns it as it is after its performance.
+    fn add(&mut self, call: Call) -> Call {
+        let mut after = call.clone();
+        self.calls.push(call);
+        // An outcome is made from this copy; the answer is worked out again for the text.
+        let _ = after.perform();
+        after
+    }
+
+    fn page(&mut self, entry: Entry, page: &[u8], other: Vec<u8>) -> Vec<u8> {
+        self.add(Call::of_page(entry, page.to_vec(), other)).page
+    }
+
+    /// A call whose other buffer holds any bytes.
+    fn page_with(&mut self, entry: Entry, page: &[u8], length: usize) {
+        let other = self.random.bytes(length);
+        self.page(entry, page, other);
+    }
+
+    fn word(&mut self, word: u64) {
+        for entry in Entry::OF_WORDS {
+            self.add(Call::of_word(entry, word));
+        }
+    }
+
+    /// Encodes the value, and takes its word to every word entry.
+    fn value(&mut self, value: u32) {
+        self.add(Call::of_word(Entry::EncodeWord, u64::from(value)));
+        self.word(number_of(&legal_word(value)));
+    }
+
+    /// Every marked value of document 01's list.
+    fn listed_words(&mut self) {
+        LISTED_VALUES.into_iter().for_each(|value| self.value(value));
+        self.word(number_of(&cells_with_sum(LARGEST_SUM)));
+        self.word(number_of(&with_neighbours([false; CELLS], 0)));
+    }
+
+    /// Every unmarked value of document 01's list.
+    fn listed_pages(&mut self) {
+        for (value, most) in [(0, 126), (SPARSE_VALUE, 82)] {
+            let page = self.page(Entry::WriteFirst, &[0; PAGE_BYTES], first_record(&[value; WORDS]));
+            self.page_with(Entry::ReadFirst, &page, FIRST_BYTES);
+            self.page_with(Entry::PageCapacity, &page, 0);
+            for record in [vec![0xFF; most], vec![0xFF; most + 1], Vec::new(), vec![0]] {
+                let length = record.len();
+                let after = self.page(Entry::Rewrite, &page, record);
+                self.page_with(Entry::ReadSecond, &after, length);
+            }
+        }
+    }
+
+    /// Pages of any values through both rounds, with records and outputs of every length class.
+    fn both_rounds(&mut self) {
+        for turn in 0..20 {
+            let values = if turn == 0 { [EDGE_VALUE; WORDS] } else { any_values(&mut self.random) };
+            let first = self.page(Entry::WriteFirst, &[0; PAGE_BYTES], first_record(&values));
+            self.page_with(Entry::ReadFirst, &first, FIRST_BYTES + turn % 3);
+            self.page_with(Entry::PageCapacity, &first, 0);
+            let most = most_bytes(&first);
+            let length = [most, 0, 1, most - 1, self.random.between(2, most)][turn % 5];
+            let record = self.random.bytes(length);
+            let second = self.page(Entry::Rewrite, &first, record);
+            self.page_with(Entry::ReadSecond, &second, [length, length + 1, 126 + turn][turn % 3]);
+        }
+    }
+
+    /// Capacities from the most to the least: the longest record that fits, and one byte more; and records far too long.
+    fn capacities(&mut self) {
+        for sparse in [1, 5, 11, 22, 33, 43] {
+            let values =
+                std::array::from_fn(|index| if index * 7 % WORDS < sparse { SPARSE_VALUE } else { index as u32 });
+            let first = first_page(&values);
+            let most = most_bytes(&first);
+            self.page_with(Entry::Rewrite, &first, most + 1);
+            let record = self.random.bytes(most);
+            let second = self.page(Entry::Rewrite, &first, record);
+            self.page_with(Entry::ReadSecond, &second, most);
+        }
+        for length in FAR_RECORD_LENGTHS.into_iter().filter(|&length| length <= LENGTH_MOST) {
+            let first = any_first(&mut self.random);
+            self.page_with(Entry::Rewrite, &first, length);
+        }
+    }
+
+    /// Neighbours and sums too large, in chosen words; the lowest of two such words counts.
+    fn illegal_words(&mut self) {
+        for index in INDICES {
+            let first = any_first(&mut self.random);
+            let cells = words_of(&first)[index];
+            // A pair that lies in two bytes.
+            let byte_edge = (0..CELLS - 1).find(|cell| (CELLS * index + cell) % 8 == 7).expect("a word has byte edges");
+            let pairs = [0, byte_edge, CELLS - 2].map(|cell| with_neighbours(cells, cell));
+            let sums = [cells_with_sum(LARGEST_VALUE + 1), sum_too_large(&mut self.random)];
+            for (turn, damaged) in pairs.into_iter().chain(sums).enumerate() {
+                let page = with_word(first.clone(), index, damaged);
+                let entry = Entry::OF_FIRST_PAGES[(turn + index) % 3];
+                self.page_with(entry, &page, if entry == Entry::ReadFirst { FIRST_BYTES } else { 20 });
+                if turn == 1 {
+                    let two = with_word(page, WORDS - 1, sum_too_large(&mut self.random));
+                    self.page_with(Entry::PageCapacity, &two, 0);
+                }
+            }
+        }
+    }
+
+    /// Holes at the start, in the middle and at the end of chosen words.
+    fn holes(&mut self) {
+        for (index, hole) in INDICES.into_iter().flat_map(|index| Hole::ALL.map(|hole| (index, hole))) {
+            let second = any_second(&mut self.random);
+            let damaged = with_hole(&mut self.random, hole);
+            self.page_with(Entry::ReadSecond, &with_word(second, index, damaged), 126);
+        }
+    }
+
+    /// Pages with one bit flipped.
+    fn flips(&mut self) {
+        for turn in 0..14 {
+            let bit = self.random.between(24, 8 * PAGE_BYTES - 1);
+            let first = with_flip(any_first(&mut self.random), bit);
+            self.page_with(Entry::OF_FIRST_PAGES[turn % 3], &first, 30);
+            let second = with_flip(any_second(&mut self.random), bit);
+            self.page_with(Entry::ReadSecond, &second, 126);
+        }
+    }
+
+    /// Too few data cells, and spare data cells set: the first, the last and one between.
+    fn data_cells(&mut self) {
+        for (value, length) in [(SPARSE_VALUE, 82), (SPARSE_VALUE, 0), (243, 1), (EDGE_VALUE, 50), (0, 126)] {
+            let first = first_page(&[value; WORDS]);
+            let second = second_page(&first, &self.random.bytes(length));
+            let found = data_cells_of(&words_of(&second)).len();
+            for spare in [8 * length, (8 * length + found) / 2, found - 1] {
+                self.page_with(Entry::ReadSecond, &with_data_cell(second.clone(), spare), 126);
+            }
+            self.page_with(Entry::ReadSecond, &with_byte(second.clone(), 1, (found / 8) as u8), 126);
+            self.page_with(Entry::ReadSecond, &with_byte(second, 1, 126.min(found / 8 + 1) as u8), 126);
+        }
+    }
+
+    /// States and header bytes out of their ranges, at the ends of these; pages that are not blank.
+    fn headers(&mut self) {
+        let changes = [(0, 0x00), (0, 0x02), (0, 0x06), (0, 0x81), (0, 0xFF)];
+        let lengths = [(1, 1), (1, 126), (1, 127), (1, 255), (2, 1), (2, 128)];
+        for (place, byte) in changes.into_iter().chain(lengths) {
+            let first = with_byte(any_first(&mut self.random), place, byte);
+            for entry in Entry::OF_FIRST_PAGES {
+                self.page_with(entry, &first, 9);
+            }
+            let second = with_byte(any_second(&mut self.random), place, byte);
+            self.page_with(Entry::ReadSecond, &second, 126);
+        }
+        for place in [0, 1, 2, 3, 255] {
+            let page = with_byte(vec![0; PAGE_BYTES], place, self.random.byte_from(1));
+            self.page_with(Entry::WriteFirst, &page, FIRST_BYTES);
+        }
+        let (first, second) = (any_first(&mut self.random), any_second(&mut self.random));
+        self.page_with(Entry::WriteFirst, &first, FIRST_BYTES);
+        self.page_with(Entry::ReadFirst, &second, FIRST_BYTES);
+        self.page_with(Entry::ReadSecond, &first, 126);
+    }
+
+    /// Wrong lengths of the page, and of the data.
+    fn lengths(&mut self) {
+        for length in WRONG_PAGE_LENGTHS {
+            for entry in [Entry::ReadFirst, Entry::PageCapacity, Entry::Rewrite] {
+                let first = any_first(&mut self.random);
+                let page = resized(&mut self.random, first, length);
+                self.page_with(entry, &page, 11);
+            }
+            let second = any_second(&mut self.random);
+            let page = resized(&mut self.random, second, length);
+            self.page_with(Entry::ReadSecond, &page, 126);
+            self.page_with(Entry::WriteFirst, &vec![0; length], FIRST_BYTES);
+        }
+        for length in [0, 4, 175, 177, 352] {
+            self.page_with(Entry::WriteFirst, &[0; PAGE_BYTES], length);
+        }
+    }
+
+    /// Outputs one short, exact and longer.
+    fn outputs(&mut self) {
+        let first = any_first(&mut self.random);
+        for length in [0, 1, 175, 176, 177, 300] {
+            self.page_with(Entry::ReadFirst, &first, length);
+        }
+        for (record, outputs) in [(0, [0, 1, 126]), (1, [0, 1, 2]), (82, [81, 82, 83]), (126, [125, 126, 180])] {
+            let second = second_page(&first_page(&[2; WORDS]), &self.random.bytes(record));
+            for length in outputs {
+                self.page_with(Entry::ReadSecond, &second, length);
+            }
+        }
+    }
+
+    /// Every choice of conditions at once, so that the order of refusals shows.
+    fn orders(&mut self) {
+        for entry in Entry::ALL {
+            for chosen in 0..choices(entry) {
+                let call = combined(&mut self.random, entry, chosen);
+                self.add(call);
+            }
+        }
+    }
+
+    /// Values at the ends and anywhere, and words of every kind.
+    fn words(&mut self) {
+        self.value(u32::MAX);
+        self.word(number_of(&cells_with_sum(LARGEST_VALUE + 1)));
+        for turn in 0..48 {
+            let value = u64::from(any_value(&mut self.random));
+            let encode = Call::of_word(Entry::EncodeWord, value);
+            let word = any_word_call(&mut self.random, Entry::OF_WORDS[turn % 3]);
+            self.add(if turn % 4 == 0 { encode } else { word });
+        }
+    }
+}
+
+/// The binary file: for each call a header of 13 bytes, the page, and the other buffer.
+pub fn input_of(calls: &[Call]) -> Vec<u8> {
+    let mut bytes = Vec::new();
+    for call in calls {
+        bytes.push(call.entry.number() as u8);
+        bytes.extend(call.argument.to_be_bytes());
+        for buffer in [&call.page, &call.other] {
+            let length = u16::try_from(buffer.len()).expect("a length of two bytes");
+            bytes.extend(length.to_be_bytes());
+        }
+        bytes.extend(&call.page);
+        bytes.extend(&call.other);
+    }
+    bytes
+}
+
+/// One line: index, entry, number, value, and the bytes of the buffer that the entry may write.
+fn line_of(index: usize, call: &Call) -> String {
+    let mut after = call.clone();
+    let answer = after.perform();
+    let mut line = format!("{index} {} {} {}", call.entry.number(), number(answer), value(answer));
+    if let Some(written) = after.written() {
+        line.push(' ');
+        for byte in written {
+            write!(line, "{byte:02x}").expect("a string takes text");
+        }
+    }
+    line + "\n"
+}
+
+/// The text file: one line a call.
+pub fn text_of(calls: &[Call]) -> String {
+    calls.iter().enumerate().map(|(index, call)| line_of(index, call)).collect()
+}
+
+#[cfg(test)]
+mod tests {
+    use super::*;
+    use std::collections::HashSet;
+
+    #[test]
+    fn size_and_variety() {
+        let calls = calls();
+        assert!((450..=700).contains(&calls.len()), "{} calls", calls.len());
+        assert!(text_of(&calls).len() < 250_000);
+        assert!(calls.iter().all(|call| call.page.len().max(call.other.len()) <= LENGTH_MOST));
+        let pages: HashSet<&Vec<u8>> = calls.iter().map(|call| &call.page).collect();
+        assert!(pages.len() >= 220, "{} pages", pages.len());
+    }
+
+    #[test]
+    fn every_entry_gives_every_answer() {
+        let mut met = HashSet::new();
+        for call in calls() {
+            let number = number(call.clone().perform());
+            met.insert((call.entry.number(), number));
+        }
+        for entry in Entry::ALL {
+            for number in [0].iter().chain(entry.refusals()) {
+                assert!(met.contains(&(entry.number(), *number)), "{} {number}", entry.name());
+            }
+        }
+    }
+}

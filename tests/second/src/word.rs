@@ -1,0 +1,270 @@
+//! Words: weights, legal words, the fill, capacity, reading back and well-formed words.
+
+use crate::answer::{refuse_if, Answer, Refusal};
+
+/// "A word has cells 0 to 45".
+pub const CELLS: usize = 46;
+
+/// The cells of one word, cell 0 first; `true` is a set cell.
+pub type Cells = [bool; CELLS];
+
+/// The most that the set weights of a legal word add up to.
+pub const LARGEST_VALUE: u64 = 4_294_967_295;
+
+/// "The 46 cells without neighbours reach 4807526975".
+pub const LARGEST_SUM: u64 = 4_807_526_975;
+
+/// Weight number 1 first.
+const WEIGHTS: [u64; CELLS] = weights();
+
+/// "The weights are 1, 2, 3, 5, 8 and so on, each the sum of the two before it".
+const fn weights() -> [u64; CELLS] {
+    let mut weights = [1; CELLS];
+    weights[1] = 2;
+    let mut next = 2;
+    while next < CELLS {
+        weights[next] = weights[next - 2] + weights[next - 1];
+        next += 1;
+    }
+    weights
+}
+
+/// "cell c has weight number 46 − c, counted from 1".
+pub fn weight(cell: usize) -> u64 {
+    WEIGHTS[CELLS - cell - 1]
+}
+
+/// "cell 45 is the bit worth 1 and cell 0 the bit worth 2 to the 45th"; bits above cell 0 are left out.
+pub fn cells_of(word: u64) -> Cells {
+    std::array::from_fn(|cell| word >> (CELLS - 1 - cell) & 1 == 1)
+}
+
+/// The word as a number of 64 bits.
+pub fn number_of(cells: &Cells) -> u64 {
+    cells.iter().fold(0, |word, &set| word << 1 | u64::from(set))
+}
+
+/// The sum of the set weights.
+pub fn sum(cells: &Cells) -> u64 {
+    (0..CELLS).filter(|&cell| cells[cell]).map(weight).sum()
+}
+
+fn has_neighbours(cells: &Cells) -> bool {
+    cells.windows(2).any(|pair| pair[0] && pair[1])
+}
+
+/// "no two neighbouring cells are both set, and the sum of its set weights is at most 4294967295"; there is no bit
+/// above cell 0 among cells.
+pub fn legal(cells: &Cells) -> bool {
+    !has_neighbours(cells) && sum(cells) <= LARGEST_VALUE
+}
+
+/// The cells of a word that is legal, or its refusal: 10, 11 or 12.
+fn legal_cells(word: u64) -> Result<Cells, Refusal> {
+    let cells = cells_of(word);
+    refuse_if(word >> CELLS != 0, Refusal::HIGH_BIT)?;
+    refuse_if(has_neighbours(&cells), Refusal::NEIGHBOURS)?;
+    refuse_if(sum(&cells) > LARGEST_VALUE, Refusal::SUM)?;
+    Ok(cells)
+}
+
+/// The word without neighbours whose set weights add up to `sum`, at most 4807526975: the largest weights are taken
+/// first.
+pub fn cells_with_sum(sum: u64) -> Cells {
+    let mut rest = sum;
+    std::array::from_fn(|cell| {
+        let set = weight(cell) <= rest;
+        if set {
+            rest -= weight(cell);
+        }
+        set
+    })
+}
+
+/// "Every 32-bit value has exactly one legal word."
+pub fn legal_word(value: u32) -> Cells {
+    cells_with_sum(u64::from(value))
+}
+
+/// "that cell and both neighbours are 0 [...]; a neighbour outside the word counts as 0".
+fn could_be_set(cells: &Cells, cell: usize) -> bool {
+    let before = cell > 0 && cells[cell - 1];
+    let after = cell + 1 < CELLS && cells[cell + 1];
+    !before && !cells[cell] && !after
+}
+
+/// "The fill goes through a legal word from cell 0 to cell 45", "counting the cells set so far".
+pub fn filled(legal: &Cells) -> Cells {
+    let mut cells = *legal;
+    for cell in 0..CELLS {
+        if could_be_set(&cells, cell) {
+            cells[cell] = true;
+        }
+    }
+    cells
+}
+
+/// The data cells of a filled word, lower cells first: "the cell right after a separator in the same word".
+pub fn data_cells(filled: &Cells) -> Vec<usize> {
+    (1..CELLS).filter(|&cell| filled[cell - 1]).collect()
+}
+
+/// "the number of its data cells after the fill".
+pub fn capacity(legal: &Cells) -> usize {
+    data_cells(&filled(legal)).len()
+}
+
+/// The data cells that reading back finds: "a 0 is passed over; a 1 is a separator, the next cell is a bit of data, and
+/// reading goes on after that".
+pub fn read_back(cells: &Cells) -> Vec<usize> {
+    let mut found = Vec::new();
+    let mut cell = 0;
+    while cell < CELLS {
+        if cells[cell] {
+            cell += 1;
+            if cell < CELLS {
+                found.push(cell);
+            }
+        }
+        cell += 1;
+    }
+    found
+}
+
+/// "with its data cells (those that reading back finds) put to 0, no cell of it could still be set by the fill".
+pub fn well_formed(cells: &Cells) -> bool {
+    let mut separators = *cells;
+    for cell in read_back(cells) {
+        separators[cell] = false;
+    }
+    (0..CELLS).all(|cell| !could_be_set(&separators, cell))
+}
+
+/// "Takes a 32-bit value, returns its legal word. It never refuses."
+pub fn encode_word(value: u32) -> Answer {
+    Ok(number_of(&legal_word(value)))
+}
+
+/// Returns the value of a legal word.
+pub fn decode_word(word: u64) -> Answer {
+    legal_cells(word).map(|cells| sum(&cells))
+}
+
+/// Returns the filled word.
+pub fn fill_word(word: u64) -> Answer {
+    legal_cells(word).map(|cells| number_of(&filled(&cells)))
+}
+
+/// Returns the word's capacity.
+pub fn word_capacity(word: u64) -> Answer {
+    legal_cells(word).map(|cells| capacity(&cells) as u64)
+}
+
+#[cfg(test)]
+mod tests {
+    use super::*;
+
+    /// The number of the word with just these cells set.
+    fn with(cells: impl IntoIterator<Item = usize>) -> u64 {
+        cells.into_iter().fold(0, |word, cell| word | 1 << (45 - cell))
+    }
+
+    fn even(last: usize) -> impl Iterator<Item = usize> {
+        (0..=last).step_by(2)
+    }
+
+    /// Encodes and decodes; returns the filled word and the capacity.
+    fn check(value: u32, word: u64) -> (u64, u64) {
+        assert_eq!(encode_word(value), Ok(word));
+        assert_eq!(decode_word(word), Ok(u64::from(value)));
+        (fill_word(word).unwrap(), word_capacity(word).unwrap())
+    }
+
+    #[test]
+    fn weights_of_the_first_and_the_last_cell() {
+        assert_eq!((weight(0), weight(45), weight(44), weight(41)), (2_971_215_073, 1, 2, 8));
+    }
+
+    #[test]
+    fn value_0() {
+        assert_eq!(check(0, 0), (with(even(44)), 23));
+    }
+
+    #[test]
+    fn value_1() {
+        assert_eq!(check(1, with([45])), (with(even(42).chain([45])), 22));
+    }
+
+    #[test]
+    fn value_2() {
+        assert_eq!(check(2, with([44])).1, 23);
+    }
+
+    #[test]
+    fn value_3() {
+        assert_eq!(check(3, with([43])), (with(even(40).chain([43, 45])), 22));
+    }
+
+    #[test]
+    fn values_77_and_243() {
+        check(77, with([37, 39, 45]));
+        check(243, with([34, 41, 44]));
+    }
+
+    #[test]
+    fn value_3889371024() {
+        let word = with((0..=45).step_by(3));
+        assert_eq!(check(3_889_371_024, word), (word, 15));
+    }
+
+    #[test]
+    fn every_even_cell_set() {
+        let word = with(even(44));
+        assert_eq!(decode_word(word), Err(Refusal::SUM));
+        assert_eq!(sum(&cells_of(word)), 4_807_526_975);
+    }
+
+    #[test]
+    fn cells_0_and_1_set() {
+        assert_eq!(decode_word(with([0, 1])), Err(Refusal::NEIGHBOURS));
+    }
+
+    #[test]
+    fn value_0_filled_and_written_with_23_ones() {
+        let mut cells = filled(&legal_word(0));
+        let data = data_cells(&cells);
+        assert_eq!(data.len(), 23);
+        for cell in data {
+            cells[cell] = true;
+        }
+        assert_eq!(cells, [true; CELLS]);
+    }
+
+    #[test]
+    fn the_first_refusal_in_the_stated_order() {
+        let all_three = 1 << 46 | with([0, 1, 2, 4]);
+        for entry in [decode_word, fill_word, word_capacity] {
+            assert_eq!(entry(all_three), Err(Refusal::HIGH_BIT));
+            assert_eq!(entry(with([0, 1, 2, 4])), Err(Refusal::NEIGHBOURS));
+            assert_eq!(entry(number_of(&cells_with_sum(LARGEST_VALUE + 1))), Err(Refusal::SUM));
+            assert!(entry(number_of(&cells_with_sum(LARGEST_VALUE))).is_ok());
+        }
+    }
+
+    #[test]
+    fn a_set_data_cell_is_not_the_next_separator() {
+        assert_eq!(read_back(&cells_of(with([0, 1, 2]))), [1, 3]);
+        assert_eq!(read_back(&cells_of(with([45]))), []);
+    }
+
+    #[test]
+    fn holes_are_not_well_formed() {
+        assert!(well_formed(&cells_of(with(even(44)))));
+        assert!(well_formed(&cells_of(with((1..=45).step_by(2)))));
+        assert!(!well_formed(&cells_of(with((2..=44).step_by(2)))));
+        assert!(!well_formed(&cells_of(with(even(42)))));
+        assert!(!well_formed(&cells_of(with(even(42).chain([43])))));
+        assert!(!well_formed(&cells_of(with(even(44).filter(|&cell| cell != 20)))));
+        assert!(well_formed(&cells_of((1 << CELLS) - 1)));
+    }
+}
