@@ -1,13 +1,45 @@
-.PHONY: test bench archive
+.PHONY: test demo archive bench figure differential vectors
+
+CC99 = gcc -std=c99 -Wall -Wextra -Werror -pedantic -O2 -I include
+SECOND = CARGO_TARGET_DIR=target/second cargo run --quiet --release --offline --manifest-path tests/second/Cargo.toml --bin
 
 # The gate: proves every crate from nothing, tries the must-fail edits, and runs the tests on what was proved.
 test:
 	.ci/run
 
+# A page's life in a logger, then the listing of the pages that it leaves.
+demo: archive
+	rt check listing >target/demo.log || { cat target/demo.log; exit 1; }
+	mkdir -p target/demo
+	$(CC99) -o target/demo/logger examples/logger.c target/staticlib/libwom.a
+	@echo
+	@target/demo/logger target/demo/pages.bin
+	@printf '\nThe listing of target/demo/pages.bin (target/bin/listing reads pages from its standard input):\n'
+	@target/bin/listing <target/demo/pages.bin
+
 # The archive for C programs, with include/wom.h.
 archive:
-	rt staticlib wom
+	@mkdir -p target
+	rt staticlib wom >target/archive.log || { cat target/archive.log; exit 1; }
 
 # Instructions per call, beside plain C.
 bench: archive
 	bench/run
+
+# The annex's figure, drawn from the library's answers.
+figure: archive
+	mkdir -p target/demo
+	$(CC99) -o target/demo/word_stages examples/word_stages.c target/staticlib/libwom.a
+	target/demo/word_stages >target/demo/word-stages.svg
+	cp target/demo/word-stages.svg docs/word-stages.svg
+
+# A longer comparison with the independent program: make differential SEED=7 CASES=20000000
+SEED = 2
+CASES = 2000000
+differential: archive
+	$(SECOND) differential -- run $(SEED) $(CASES)
+
+# The files of the programs vectors and listing, made anew by the independent program.
+vectors:
+	$(SECOND) generate -- vectors crates/vectors
+	$(SECOND) generate -- listing crates/listing
