@@ -1,4 +1,4 @@
--- `page::is_blank` meets its contract: the length first, then the bytes.
+-- `blank::is_blank` meets its contract: the length first, then the bytes.
 -- Assumes nothing.
 use mathlib.Core.Path.{_≡_, sym, ap, _∙_}
 use mathlib.Core.Bool.{Bool, _&&_}
@@ -7,8 +7,8 @@ use borrow.Author.Tests.{ne-eqb, eq-eqb}
 use native.Mathlib.Omega.{arith}
 use lib.ListN.{length}
 use Rattle.page.specs.Page.{zeros, isBlank}
-use Rattle.page.proofs.is_blank.Statement.{statement}
-use Rattle.page.proofs.is_blank.Tie as tie
+use Rattle.page.proofs.blank.is_blank.Statement.{statement}
+use Rattle.page.proofs.blank.is_blank.Tie as tie
 
 returns : tie.Need-returns
 unfolding isBlank

@@ -1,0 +1,45 @@
+-- What holds of kinds and lines for every piece of input. proofs/Claims.antt proves it. page/specs/Demands.antt says how to read a clause.
+-- Assumes nothing.
+use mathlib.Core.List.{List, [], _∷_, _++_}
+use mathlib.Core.Logic.{_↔_}
+use mathlib.Core.Path.{_≡_}
+use Prim.Native.Nat.{ℕ, _+_, _*_, _-_, _≤_, _<_}
+use lib.Dec.{T}
+use lib.ListN.{length, getD, replicate}
+use Rattle.cells.specs.Bytes.{Bytes}
+use Rattle.word.specs.Answer.{refusal}
+use Rattle.word.specs.Examples.{among}
+use Rattle.page.specs.Page.{state, byte1, firstPage}
+use Rattle.page.specs.Answer.{pageCapacityAnswer, readSecondAnswer}
+use Rattle.page.specs.Demands.{blank, Sized, FirstRound, SecondRound, dataCells}
+use Rattle.report.specs.declared.Kind.the-variants.{Blank, First, Second, Bad}
+use Rattle.report.specs.Kinds.{kindOf}
+use Rattle.report.specs.Lines.{ascii, decimal, lineOf}
+
+-- Each kind is given just where document 01 says, and `bad` has no other number than the six it names.
+pub record KindsExact : Type 0 where
+  pub blank-page : (P : List ℕ) → (kindOf P ≡ Blank) ↔ (P ≡ blank)
+  pub first-page : (P : List ℕ) (c : ℕ) → Bytes P → (kindOf P ≡ First c) ↔ (FirstRound P × (c ≡ dataCells P))
+  pub second-page : (P : List ℕ) (n : ℕ) → Bytes P → (kindOf P ≡ Second n) ↔ (SecondRound P × (n ≡ byte1 P))
+  -- "4 for state 00 with another byte set, 5 for an unknown state, 6, 7 or 9 as the readers give them, 1 for a last piece shorter than 256"
+  pub bad-1 : (P : List ℕ) → (kindOf P ≡ Bad 1) ↔ ¬ Sized P
+  pub bad-4 : (P : List ℕ) → (kindOf P ≡ Bad 4) ↔ (Sized P × (state P ≡ 0) × ¬ (P ≡ blank))
+  pub bad-5 : (P : List ℕ) → (kindOf P ≡ Bad 5) ↔ (Sized P × ¬ (state P ≡ 0) × ¬ (state P ≡ 1) × ¬ (state P ≡ 7))
+  pub first-refused : (P : List ℕ) (n i : ℕ) → Sized P → state P ≡ 1 → pageCapacityAnswer P ≡ refusal n i → kindOf P ≡ Bad n
+  -- whatever output read second is given, if every record fits it
+  pub second-refused : (P out : List ℕ) (n i : ℕ) → Sized P → state P ≡ 7 → 126 ≤ length out → readSecondAnswer P out ≡ refusal n i
+      → kindOf P ≡ Bad n
+  pub bad-numbers : (P : List ℕ) (n : ℕ) → kindOf P ≡ Bad n → T (among n (1 ∷ 4 ∷ 5 ∷ 6 ∷ 7 ∷ 9 ∷ []))
+
+-- the number that decimal digits write, after a number in front
+unfoldable pub decimalValue : ℕ → List ℕ → ℕ
+decimalValue front [] = front
+decimalValue front (d ∷ ds) = decimalValue (front * 10 + (d - 48)) ds
+
+pub record LinesRight : Type 0 where
+  -- the digits write the number; each is one of `0` to `9`; only the number 0 begins with `0`
+  pub value : (n : ℕ) → decimalValue 0 (decimal n) ≡ n
+  pub digit : (n i : ℕ) → i < length (decimal n) → (48 ≤ getD (decimal n) i 0) × (getD (decimal n) i 0 < 58)
+  pub no-zero-first : (n : ℕ) → 0 < n → ¬ (getD (decimal n) 0 0 ≡ 48)
+  -- "For a blank page followed by a page made from 176 zero bytes the whole output is"
+  pub example : lineOf 0 (kindOf blank) ++ lineOf 1 (kindOf (firstPage 44 blank (replicate 176 0))) ≡ ascii "0 blank 0\n1 first 1012\n"
