@@ -192,7 +192,8 @@ uint64_t wom_word_capacity(uint64_t word);
  *    - each pointer is valid for the length given with it: for reading, and
  *      for writing too where it is not to const; with length 0 it may be null
  *      or point anywhere;
- *    - the buffers of one call do not overlap.
+ *    - the buffers of one call do not overlap, and nothing else changes them
+ *      during the call.
  *
  *  A refused call writes no byte of any buffer. No other memory of the
  *  caller's is touched, and no pointer is kept.

@@ -1,12 +1,28 @@
--- Which kind a piece has, by its length and its state. Assumes nothing.
-use mathlib.Core.Path.{_≡_, refl}
-use mathlib.Core.List.{List}
-use Prim.Native.Nat.{ℕ}
-use borrow.Author.Tests.{eq-eqb, ne-eqb}
-use lib.ListN.{length}
-use Rattle.page.specs.Page.{state, blankOf}
-use Rattle.page.specs.Answer.{pageCapacityAnswer, readSecondAnswer}
-use Rattle.report.specs.declared.Kind.the-variants.{First, Second, Bad}
+-- Which kind a piece has, by its length and its state, and why. Assumes nothing.
+use mathlib.Core.Bool.{Bool, true, false, _||_}
+use mathlib.Core.List.{List, [], _∷_}
+use mathlib.Core.Logic.{_⊎_, inl, inr, ⊎-elim}
+use mathlib.Core.Path.{_≡_, refl, sym, ap, _∙_, subst}
+use Prim.Native.Nat.{ℕ, _*_, _≤_}
+use native.Mathlib.Decide.{ℕ-discrete}
+use native.Mathlib.Omega.{arith}
+use borrow.Author.Tests.{ltb-false, eqb-true, eq-eqb, ne-eqb}
+use lib.Dec.{T, eqb, ltb, eqb→eq}
+use lib.ListN.{length, drop}
+use mir.Facts.{and-yes}
+use Rattle.word.specs.Fill.{wellFormed}
+use Rattle.word.specs.Answer.{Answer, result, refusal}
+use Rattle.word.specs.Examples.{among}
+use Rattle.word.proofs.Tests.{holds}
+use Rattle.page.specs.Page.{state, byte1, byte2, zeros, someSet, isBlank, blankOf}
+use Rattle.page.specs.Answer.{ifSecondRound, pageCapacityAnswer, readSecondAnswer}
+use Rattle.page.specs.Demands.{blank, Sized, secondBits, RefusesBy}
+use Rattle.page.proofs.Acceptance.{zeros-blank, blank-zeros}
+use Rattle.page.proofs.Rounds.{long-taken}
+use Rattle.page.proofs.Refusals.{page-capacity-by}
+use Rattle.page.proofs.Refusing.{unequal, less, itself, either, by-result, by-refuse, headed-by, word-by}
+use Rattle.report.specs.declared.Kind.{Kind}
+use Rattle.report.specs.declared.Kind.the-variants.{Blank, First, Second, Bad}
 use Rattle.report.specs.Kinds.{kindBy, kindOf, blankKind}
 
 module _ (P : List ℕ) where
@@ -31,3 +47,113 @@ module _ (P : List ℕ) where
     unfolding kindOf
     kind-unknown s0 s1 s7 =
         rw (eq-eqb (length P) 256 sized) rw (ne-eqb (state P) 0 s0) rw (ne-eqb (state P) 1 s1) rw (ne-eqb (state P) 7 s7) refl
+
+-- ---- why a piece has its kind
+
+-- why a piece is bad, by its number
+pub data WhyBad (P : List ℕ) (n : ℕ) : Type 0 where
+  not-sized : n ≡ 1 → ¬ Sized P → WhyBad P n
+  not-blank : n ≡ 4 → Sized P → state P ≡ 0 → ¬ (P ≡ blank) → WhyBad P n
+  unknown : n ≡ 5 → Sized P → ¬ (state P ≡ 0) → ¬ (state P ≡ 1) → ¬ (state P ≡ 7) → WhyBad P n
+  first-bad : (i : ℕ) → state P ≡ 1 → pageCapacityAnswer P ≡ refusal n i → WhyBad P n
+  second-bad : (i : ℕ) → state P ≡ 7 → readSecondAnswer P (blankOf 126) ≡ refusal n i → WhyBad P n
+
+-- why a piece has a kind
+abbrev pub Why : List ℕ → Kind → Type 0
+Why P Blank = P ≡ blank
+Why P (First c) = pageCapacityAnswer P ≡ result c
+Why P (Second n) = readSecondAnswer P (blankOf 126) ≡ result n
+Why P (Bad n) = WhyBad P n
+
+-- the blank page passes the test
+blank-tested : isBlank 256 blank ≡ true
+unfolding isBlank blankOf
+blank-tested = zeros-blank 256
+
+-- a piece is the blank page, or not, and its kind in state 00 says which
+pub blank-or-bad : (P : List ℕ) → ((P ≡ blank) × (blankKind P ≡ Blank)) ⊎ (¬ (P ≡ blank) × (blankKind P ≡ Bad 4))
+unfolding isBlank
+blank-or-bad P = go (isBlank 256 P) refl
+  where
+    go : (b : Bool) → isBlank 256 P ≡ b → ((P ≡ blank) × (blankKind P ≡ Blank)) ⊎ (¬ (P ≡ blank) × (blankKind P ≡ Bad 4))
+    go true e =
+        let h = and-yes (eqb (length P) 256) (zeros P) (holds (isBlank 256 P) e) in
+        inl (blank-zeros P (h .1) ∙ ap blankOf (eqb→eq (length P) 256 (h .0)), rw e)
+    go false e = inr (λ h. subst T (sym blank-tested ∙ ap (isBlank 256) (sym h) ∙ e) tt, rw e)
+
+module _ (P : List ℕ) where
+  -- in state 01, by page capacity's answer
+  by-capacity : state P ≡ 1 → (a : Answer) → pageCapacityAnswer P ≡ a → Why P (kindBy First a)
+  by-capacity s (result c) e = e
+  by-capacity s (refusal n i) e = first-bad i s e
+
+  -- in state 07, by read second's
+  by-second : state P ≡ 7 → (a : Answer) → readSecondAnswer P (blankOf 126) ≡ a → Why P (kindBy Second a)
+  by-second s (result n) e = e
+  by-second s (refusal n i) e = second-bad i s e
+
+  -- by the length and the state
+  by-cases : Dec (Sized P) → Dec (state P ≡ 0) → Dec (state P ≡ 1) → Dec (state P ≡ 7) → Why P (kindOf P)
+  by-cases (no z) d0 d1 d7 = rw (kind-not-sized P z) (not-sized refl z)
+  by-cases (yes z) (yes s) d1 d7 =
+      rw (kind-00 P z s) (⊎-elim (λ h. rw (h .1) (h .0)) (λ h. rw (h .1) (not-blank refl z s (h .0))) (blank-or-bad P))
+  by-cases (yes z) (no s0) (yes s) d7 = rw (kind-01 P z s) (by-capacity s (pageCapacityAnswer P) refl)
+  by-cases (yes z) (no s0) (no s1) (yes s) = rw (kind-07 P z s) (by-second s (readSecondAnswer P (blankOf 126)) refl)
+  by-cases (yes z) (no s0) (no s1) (no s7) = rw (kind-unknown P z s0 s1 s7) (unknown refl z s0 s1 s7)
+
+  -- a piece that has a kind has it for that kind's reason
+  pub kind-why : (k : Kind) → kindOf P ≡ k → Why P k
+  kind-why k e =
+      subst (Why P) e
+      (by-cases (ℕ-discrete (length P) 256) (ℕ-discrete (state P) 0) (ℕ-discrete (state P) 1) (ℕ-discrete (state P) 7))
+
+-- ---- the numbers of `bad`
+
+-- with an output that every record fits, read second has no refusal 3
+pub second-fits : (P out : List ℕ) → 126 ≤ length out → readSecondAnswer P out ≡ ifSecondRound 44 256 126 P (result (byte1 P))
+unfolding readSecondAnswer ifSecondRound
+second-fits P out h = go (ltb 126 (byte1 P)) refl
+  where
+    go : (b : Bool) → ltb 126 (byte1 P) ≡ b → readSecondAnswer P out ≡ ifSecondRound 44 256 126 P (result (byte1 P))
+    go true e = rw e refl
+    go false e =
+        let l = ltb-false 126 (byte1 P) e in
+        ap (ifSecondRound 44 256 126 P) (long-taken (length out) (byte1 P) 3 0 (result (byte1 P)) (omega arith))
+
+-- then it refuses by these
+second-by : (P : List ℕ) (x : ℕ) → RefusesBy (1 ∷ 5 ∷ 6 ∷ 7 ∷ 9 ∷ []) (ifSecondRound 44 256 126 P (result x))
+unfolding ifSecondRound
+second-by P x =
+    headed-by (unequal (length P) 256) (unequal (state P) 7) (either (less 126 (byte1 P)) (unequal (byte2 P) 0))
+    (word-by wellFormed P
+    (by-refuse 9 0 (either (less (length (secondBits P)) (8 * byte1 P)) (itself (someSet (drop (8 * byte1 P) (secondBits P))))) (by-result x)))
+
+-- each number of a list is among others
+abbrev Within : List ℕ → List ℕ → Type 0
+Within [] ms = Unit {0}
+Within (m ∷ ns) ms = T (among m ms) × Within ns ms
+
+-- so a number that is among the list is among the others
+within : (n : ℕ) (ns ms : List ℕ) → Within ns ms → T (among n ns) → T (among n ms)
+unfolding among
+within n [] ms w h = absurd h
+within n (m ∷ ns) ms w h = go (eqb n m) refl h (within n ns ms (w .1))
+  where
+    go : (b : Bool) → eqb n m ≡ b → T (b || among n ns) → (T (among n ns) → T (among n ms)) → T (among n ms)
+    go true e t r = rw (eqb-true n m e) (w .0)
+    go false e t r = r t
+
+-- document 01's
+abbrev badNumbers : List ℕ
+badNumbers = 1 ∷ 4 ∷ 5 ∷ 6 ∷ 7 ∷ 9 ∷ []
+
+-- a bad piece's number is one of these
+pub bad-among : (P : List ℕ) (n : ℕ) → WhyBad P n → T (among n badNumbers)
+unfolding among blankOf
+bad-among P n (not-sized e _) = rw e tt
+bad-among P n (not-blank e _ _ _) = rw e tt
+bad-among P n (unknown e _ _ _ _) = rw e tt
+bad-among P n (first-bad i s e) = within n (1 ∷ 5 ∷ 6 ∷ 7 ∷ []) badNumbers (tt, (tt, (tt, (tt, tt)))) (page-capacity-by P .listed n i e)
+bad-among P n (second-bad i s e) =
+    within n (1 ∷ 5 ∷ 6 ∷ 7 ∷ 9 ∷ []) badNumbers (tt, (tt, (tt, (tt, (tt, tt)))))
+    (second-by P (byte1 P) .listed n i (sym (second-fits P (blankOf 126) (omega arith)) ∙ e))

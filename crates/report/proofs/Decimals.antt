@@ -1,14 +1,18 @@
--- Numbers in decimal: the last digit apart from the others, and how many there are. Assumes nothing.
+-- Numbers in decimal: the last digit apart from the others, how many there are, and what they write. Assumes nothing.
 use mathlib.Core.Path.{_≡_, refl, sym, ap, _∙_}
-use mathlib.Core.Bool.{Bool, true, false, cond}
+use mathlib.Core.Bool.{Bool, true, false}
 use mathlib.Core.List.{List, [], _∷_, _++_}
-use Prim.Native.Nat.{ℕ, zero, suc, _+_, _*_, _/_, _%_, _^_, _≤_, _<_}
+use mathlib.Core.Logic.{⊎-elim}
+use Prim.Native.Nat.{ℕ, zero, suc, _+_, _*_, _-_, _/_, _%_, _^_, _≤_, _<_}
 use native.Mathlib.Nat.{pow-suc}
 use native.Mathlib.Omega.{arith}
 use borrow.Author.Tests.{ltb-true, ltb-false, lt-ltb, le-ltb}
 use lib.Dec.{ltb}
-use lib.ListN.{length, length-append}
+use lib.ListN.{length, getD, length-append, List·getD-append}
+use lib.Seq.{getD-at}
+use Rattle.word.proofs.Tests.{lt-cases}
 use Rattle.report.specs.Lines.{digits, decimal}
+use Rattle.report.specs.Claims.{decimalValue}
 
 -- a number below 10 is its digit
 digits-below : (k n : ℕ) → n < 10 → digits k n ≡ (48 + n) ∷ []
@@ -57,3 +61,64 @@ decimal-short (suc k) n h = go (ltb n 10) refl (decimal-short k (n / 10))
 -- a number of 32 bits has at most 10 digits
 pub decimal-32 : (n : ℕ) → n < 2 ^ 32 → length (decimal n) ≤ 10
 decimal-32 n h = decimal-short 9 n (omega (arith, h))
+
+-- ---- what the digits write
+
+-- what holds of each number below 10, and of any other if it holds of a tenth of it, holds of all
+module _ (C : ℕ → Type 0) (below : (n : ℕ) → n < 10 → C n) (from : (n : ℕ) → 10 ≤ n → C (n / 10) → C n) where
+  -- of the numbers up to k
+  up-to : (k n : ℕ) → n ≤ k → C n
+  up-to zero n h = below n (omega arith)
+  up-to (suc k) n h = go (ltb n 10) refl (up-to k (n / 10))
+    where
+      go : (b : Bool) → ltb n 10 ≡ b → (n / 10 ≤ k → C (n / 10)) → C n
+      go true e r = below n (ltb-true n 10 e)
+      go false e r = let t = ltb-false n 10 e in from n t (r (omega arith))
+
+  -- of all
+  by-tenths : (n : ℕ) → C n
+  by-tenths n = up-to n n (omega arith)
+
+-- a digit more is ten times the number, and the digit
+value-snoc : (front : ℕ) (ds : List ℕ) (d : ℕ) → decimalValue front (ds ++ d ∷ []) ≡ decimalValue front ds * 10 + (d - 48)
+unfolding decimalValue
+value-snoc front [] d = refl
+value-snoc front (x ∷ ds) d = value-snoc (front * 10 + (x - 48)) ds d
+
+-- the digits of a number write it
+pub decimal-value : (n : ℕ) → decimalValue 0 (decimal n) ≡ n
+unfolding decimalValue
+decimal-value =
+    by-tenths (λ n. decimalValue 0 (decimal n) ≡ n)
+    (λ n h. rw (decimal-below n h) omega arith)
+    (λ n h r. rw (decimal-from n h) omega (arith, r, value-snoc 0 (decimal (n / 10)) (48 + n % 10)))
+
+-- all are digits
+abbrev Digits : List ℕ → Type 0
+Digits ds = (i : ℕ) → i < length ds → (48 ≤ getD ds i 0) × (getD ds i 0 < 58)
+
+-- a digit more
+digits-snoc : (ds : List ℕ) (d : ℕ) → Digits ds → (48 ≤ d) × (d < 58) → Digits (ds ++ d ∷ [])
+digits-snoc ds d r h i k =
+    ⊎-elim (λ e. rw (getD-at ds d [] 0 i (sym e)) h) (λ l. rw (List·getD-append ds (d ∷ []) 0 i l) (r i l))
+    (lt-cases (omega (arith, length-append ds (d ∷ []))))
+
+-- a number is written in digits only
+pub decimal-digit : (n : ℕ) → Digits (decimal n)
+decimal-digit =
+    by-tenths (λ n. Digits (decimal n))
+    (λ n h. rw (decimal-below n h) (digits-snoc [] (48 + n) (λ i. omega arith) (omega arith)))
+    (λ n h r. rw (decimal-from n h) (digits-snoc (decimal (n / 10)) (48 + n % 10) r (omega arith)))
+
+-- at least one digit
+decimal-some : (n : ℕ) → 0 < length (decimal n)
+decimal-some =
+    by-tenths (λ n. 0 < length (decimal n)) (λ n h. rw (decimal-below n h) omega arith) (λ n h r. omega (arith, decimal-longer n h))
+
+-- the first is `0` for the number 0 only
+pub decimal-first : (n : ℕ) → 0 < n → ¬ (getD (decimal n) 0 0 ≡ 48)
+decimal-first =
+    by-tenths (λ n. 0 < n → ¬ (getD (decimal n) 0 0 ≡ 48))
+    (λ n h p. rw (decimal-below n h) omega arith)
+    (λ n h r p.
+    rw (decimal-from n h, List·getD-append (decimal (n / 10)) ((48 + n % 10) ∷ []) 0 0 (decimal-some (n / 10))) (r (omega arith)))

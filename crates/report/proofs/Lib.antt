@@ -2,3 +2,4 @@
 pub mod Deciding
 pub mod Decimals
 pub mod Storing
+pub mod Claims

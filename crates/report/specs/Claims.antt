@@ -25,10 +25,10 @@ pub record KindsExact : Type 0 where
   pub bad-1 : (P : List ℕ) → (kindOf P ≡ Bad 1) ↔ ¬ Sized P
   pub bad-4 : (P : List ℕ) → (kindOf P ≡ Bad 4) ↔ (Sized P × (state P ≡ 0) × ¬ (P ≡ blank))
   pub bad-5 : (P : List ℕ) → (kindOf P ≡ Bad 5) ↔ (Sized P × ¬ (state P ≡ 0) × ¬ (state P ≡ 1) × ¬ (state P ≡ 7))
-  pub first-refused : (P : List ℕ) (n i : ℕ) → Sized P → state P ≡ 1 → pageCapacityAnswer P ≡ refusal n i → kindOf P ≡ Bad n
+  pub first-refused : (P : List ℕ) (n : ℕ) → Sized P → state P ≡ 1 → (kindOf P ≡ Bad n) ↔ ((i : ℕ) × (pageCapacityAnswer P ≡ refusal n i))
   -- whatever output read second is given, if every record fits it
-  pub second-refused : (P out : List ℕ) (n i : ℕ) → Sized P → state P ≡ 7 → 126 ≤ length out → readSecondAnswer P out ≡ refusal n i
-      → kindOf P ≡ Bad n
+  pub second-refused : (P out : List ℕ) (n : ℕ) → Sized P → state P ≡ 7 → 126 ≤ length out
+      → (kindOf P ≡ Bad n) ↔ ((i : ℕ) × (readSecondAnswer P out ≡ refusal n i))
   pub bad-numbers : (P : List ℕ) (n : ℕ) → kindOf P ≡ Bad n → T (among n (1 ∷ 4 ∷ 5 ∷ 6 ∷ 7 ∷ 9 ∷ []))
 
 -- the number that decimal digits write, after a number in front

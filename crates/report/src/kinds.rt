@@ -3,7 +3,7 @@ use crate::Kind;
 use page::Measured;
 use page::SecondRead;
 ghost use mathlib.Core.Path.{_≡_};
-ghost use Rattle.page.specs.Answer.{measuredCode, secondReadCode, pageCapacityAnswer, readSecondAnswer};
+ghost use Rattle.page.specs.Answer.{measuredCode, secondReadCode, readSecondAnswer};
 ghost use Rattle.page.specs.Page.{blankOf};
 ghost use Rattle.report.specs.declared.Kind.the-variants.{First, Second};
 ghost use Rattle.report.specs.Kinds.{kindBy, kindOf, blankKind};

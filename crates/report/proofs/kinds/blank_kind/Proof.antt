@@ -1,6 +1,6 @@
 -- `kinds::blank_kind` meets its contract: blank or not.
 -- Assumes nothing.
-use mathlib.Core.Path.{_≡_, sym, ap, _∙_}
+use mathlib.Core.Path.{sym, ap, _∙_}
 use mathlib.Core.Bool.{Bool, cond}
 use borrow.Author.Needs.{needs}
 use Rattle.report.specs.declared.Kind.the-variants.{Blank, Bad}

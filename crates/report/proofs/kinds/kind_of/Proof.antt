@@ -2,7 +2,6 @@
 -- Assumes nothing.
 use mathlib.Core.Path.{sym, ap, _∙_}
 use borrow.Author.Needs.{needs}
-use native.Mathlib.Omega.{arith}
 use Rattle.report.specs.declared.Kind.the-variants.{First}
 use Rattle.report.specs.Kinds.{kindBy}
 use Rattle.report.proofs.Deciding.{kind-not-sized, kind-00, kind-01, kind-07, kind-unknown}

@@ -1,0 +1,153 @@
+-- The claims of specs/Claims.antt.
+-- Assumes nothing.
+use mathlib.Core.List.{List, _++_}
+use mathlib.Core.Logic.{_↔_, ⊎-elim}
+use mathlib.Core.Path.{_≡_, refl, sym, ap, _∙_}
+use Prim.Native.Nat.{ℕ, _≤_}
+use native.Mathlib.Omega.{arith}
+use lib.ListN.{length, replicate}
+use Rattle.cells.specs.Cells.{first, number, bit, cells}
+use Rattle.cells.specs.Bytes.{bits, Bytes}
+use Rattle.cells.specs.Words.{pageWords}
+use Rattle.word.specs.Word.{seriesFrom, weight, zeckendorf}
+use Rattle.word.specs.Fill.{fillFrom, fill, readFrom, read, capacity}
+use Rattle.word.specs.Answer.{Answer, result, refusal}
+use Rattle.word.specs.Examples.{among}
+use Rattle.page.specs.Page.{state, byte1, blankOf, firstWords, firstPage, capacityAll}
+use Rattle.page.specs.Answer.{pageCapacityAnswer, readSecondAnswer}
+use Rattle.page.specs.Demands.{blank, Sized, FirstRound, SecondRound, dataCells}
+use Rattle.page.proofs.Acceptance.{page-capacity, read-second}
+use Rattle.page.proofs.Capacities.{capacity-is}
+use Rattle.page.proofs.FirstPages.{first-written, words-written}
+use Rattle.page.proofs.Laid.{form}
+use Rattle.page.proofs.Refusals.{page-capacity-1567, page-capacity-by, read-second-1, read-second-5, read-second-by}
+use Rattle.report.specs.declared.Kind.{Kind}
+use Rattle.report.specs.declared.Kind.the-variants.{Blank, First, Second, Bad}
+use Rattle.report.specs.Kinds.{kindBy, kindOf}
+use Rattle.report.specs.Lines.{ascii, digits, decimal, lineOf}
+use Rattle.report.specs.Claims.{KindsExact, LinesRight}
+use Rattle.report.proofs.Deciding.{kind-not-sized, kind-00, kind-01, kind-07, kind-unknown, WhyBad, not-sized, not-blank, unknown, first-bad, second-bad, blank-or-bad, kind-why, second-fits, bad-among}
+use Rattle.report.proofs.Decimals.{decimal-value, decimal-digit, decimal-first}
+
+-- ---- kinds
+
+-- the blank page
+blank-kind : kindOf blank ≡ Blank
+unfolding blankOf
+blank-kind = kind-00 blank refl refl ∙ ⊎-elim (λ h. h .1) (λ h. absurd (h .0 refl)) (blank-or-bad blank)
+
+-- `first` is what page capacity accepts
+first-page : (P : List ℕ) (c : ℕ) → Bytes P → (kindOf P ≡ First c) ↔ (FirstRound P × (c ≡ dataCells P))
+first-page P c b = (
+  λ e. page-capacity P c b .0 (kind-why P (First c) e),
+  λ h. kind-01 P (h .0 .sized) (h .0 .in-state) ∙ ap (kindBy First) (page-capacity P c b .1 h),
+)
+
+-- `second` is what read second accepts, since every record fits its output
+second-page : (P : List ℕ) (n : ℕ) → Bytes P → (kindOf P ≡ Second n) ↔ (SecondRound P × (n ≡ byte1 P))
+unfolding blankOf
+second-page P n b = (
+  λ e. let r = read-second P (blankOf 126) n b .0 (kind-why P (Second n) e) in (r .0, r .1),
+  λ h.
+      kind-07 P (h .0 .sized) (h .0 .in-state)
+      ∙ ap (kindBy Second) (read-second P (blankOf 126) n b .1 (h .0, h .1, omega (arith, h .0 .byte1-most))),
+)
+
+-- either reader refuses by 1 only what is not sized
+why-1 : (P : List ℕ) → WhyBad P 1 → ¬ Sized P
+why-1 P (not-sized _ h) = h
+why-1 P (not-blank e _ _ _) = absurd (omega arith)
+why-1 P (unknown e _ _ _ _) = absurd (omega arith)
+why-1 P (first-bad i _ a) = page-capacity-1567 P .one i .0 a .0
+why-1 P (second-bad i _ a) = read-second-1 P (blankOf 126) i .0 a .0
+
+-- neither refuses by 4
+why-4 : (P : List ℕ) → WhyBad P 4 → Sized P × (state P ≡ 0) × ¬ (P ≡ blank)
+unfolding among
+why-4 P (not-sized e _) = absurd (omega arith)
+why-4 P (not-blank _ z s h) = (z, s, h)
+why-4 P (unknown e _ _ _ _) = absurd (omega arith)
+why-4 P (first-bad i _ a) = absurd (page-capacity-by P .listed 4 i a)
+why-4 P (second-bad i _ a) = absurd (read-second-by P (blankOf 126) .listed 4 i a)
+
+-- neither refuses by 5 a page in its own state
+why-5 : (P : List ℕ) → WhyBad P 5 → Sized P × ¬ (state P ≡ 0) × ¬ (state P ≡ 1) × ¬ (state P ≡ 7)
+why-5 P (not-sized e _) = absurd (omega arith)
+why-5 P (not-blank e _ _ _) = absurd (omega arith)
+why-5 P (unknown _ z s0 s1 s7) = (z, s0, s1, s7)
+why-5 P (first-bad i s a) = absurd (page-capacity-1567 P .five i .0 a .1 s)
+why-5 P (second-bad i s a) = absurd (read-second-5 P (blankOf 126) i .0 a .1 s)
+
+-- state 00 with another byte set
+bad-4 : (P : List ℕ) → Sized P × (state P ≡ 0) × ¬ (P ≡ blank) → kindOf P ≡ Bad 4
+bad-4 P h = kind-00 P (h .0) (h .1) ∙ ⊎-elim (λ b. absurd (h .2 (b .0))) (λ b. b .1) (blank-or-bad P)
+
+-- a refusal makes the page bad, and nothing else does
+refused-bad : (kind : ℕ → Kind) (a : Answer) (n : ℕ) → ((m : ℕ) → ¬ (kind m ≡ Bad n)) → (kindBy kind a ≡ Bad n) ↔ ((i : ℕ) × (a ≡ refusal n i))
+refused-bad kind (result m) n other = (λ e. absurd (other m e), λ h. let e = h .1 in let z : _≡_ {A = ℕ} 0 1 = cc in absurd (omega arith))
+refused-bad kind (refusal m i) n other = (
+  λ e. let same : m ≡ n = cc in (i, ap (λ (k : ℕ). refusal k i) same),
+  λ h. let e = h .1 in let same : m ≡ n = cc in ap Bad same,
+)
+
+first-refused : (P : List ℕ) (n : ℕ) → Sized P → state P ≡ 1 → (kindOf P ≡ Bad n) ↔ ((i : ℕ) × (pageCapacityAnswer P ≡ refusal n i))
+first-refused P n z s =
+    let r = refused-bad First (pageCapacityAnswer P) n (λ m e. let z : _≡_ {A = ℕ} 0 1 = cc in omega arith) in
+    (λ e. r .0 (sym (kind-01 P z s) ∙ e), λ h. kind-01 P z s ∙ r .1 h)
+
+-- read second refuses alike with any output that every record fits
+second-refused : (P out : List ℕ) (n : ℕ) → Sized P → state P ≡ 7 → 126 ≤ length out
+    → (kindOf P ≡ Bad n) ↔ ((i : ℕ) × (readSecondAnswer P out ≡ refusal n i))
+unfolding blankOf
+second-refused P out n z s l =
+    let r = refused-bad Second (readSecondAnswer P out) n (λ m e. let z : _≡_ {A = ℕ} 0 1 = cc in omega arith) in
+    let k = kind-07 P z s ∙ ap (kindBy Second) (second-fits P (blankOf 126) (omega arith) ∙ sym (second-fits P out l)) in
+    (λ e. r .0 (sym k ∙ e), λ h. k ∙ r .1 h)
+
+pub kinds-exact : KindsExact
+kinds-exact = record {
+  blank-page = λ P. (kind-why P Blank, λ e. ap kindOf e ∙ blank-kind);
+  first-page = first-page;
+  second-page = second-page;
+  bad-1 = λ P. (λ e. why-1 P (kind-why P (Bad 1) e), kind-not-sized P);
+  bad-4 = λ P. (λ e. why-4 P (kind-why P (Bad 4) e), bad-4 P);
+  bad-5 = λ P. (λ e. why-5 P (kind-why P (Bad 5) e), λ h. kind-unknown P (h .0) (h .1) (h .2) (h .3));
+  first-refused = first-refused;
+  second-refused = second-refused;
+  bad-numbers = λ P n e. bad-among P n (kind-why P (Bad n) e);
+}
+
+-- ---- lines
+
+-- the page made from 176 zero bytes
+abbrev zeroRecord : List ℕ
+zeroRecord = replicate 176 0
+
+abbrev zeroPage : List ℕ
+zeroPage = firstPage 44 blank zeroRecord
+
+-- it is a first-round page, and its words are those of the record
+zero-first : FirstRound zeroPage
+zero-first = first-written form refl zeroRecord
+
+zero-words : pageWords zeroPage 44 ≡ firstWords 44 zeroRecord
+zero-words = words-written form refl zeroRecord
+
+-- they have 44 times 23 data cells
+zero-capacity : capacityAll (firstWords 44 zeroRecord) ≡ 1012
+unfolding capacityAll capacity read readFrom fill fillFrom firstWords zeckendorf weight seriesFrom first number bits cells bit
+zero-capacity = refl
+
+-- so its kind has 1012
+zero-kind : kindOf zeroPage ≡ First 1012
+zero-kind =
+    let c : 1012 ≡ dataCells zeroPage = sym (ap capacityAll zero-words ∙ zero-capacity) ∙ capacity-is zeroPage zero-first in
+    first-page zeroPage 1012 (zero-first .of-bytes) .1 (zero-first, c)
+
+-- the two lines
+example : lineOf 0 (kindOf blank) ++ lineOf 1 (kindOf zeroPage) ≡ ascii "0 blank 0\n1 first 1012\n"
+unfolding lineOf decimal digits
+example = rw (blank-kind, zero-kind) refl
+
+pub lines-right : LinesRight
+lines-right = record { value = decimal-value; digit = decimal-digit; no-zero-first = decimal-first; example = example }
