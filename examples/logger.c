@@ -3,7 +3,7 @@
  * library: the page is written, fetched by the service van, written again over
  * the same cells, and read back from the flash part alone.
  *
- *     logger          tells the story, and shows the page's bytes and cells
+ *     logger          prints each step, and the page's bytes and cells
  *     logger PATH     also writes pages to the file PATH, for the listing
  *                     program: blank, first round, second round, a damaged
  *                     copy of the latter two, and a piece of 100 bytes

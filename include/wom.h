@@ -193,7 +193,10 @@ uint64_t wom_word_capacity(uint64_t word);
  *      for writing too where it is not to const; with length 0 it may be null
  *      or point anywhere;
  *    - the buffers of one call do not overlap, and nothing else changes them
- *      during the call.
+ *      during the call;
+ *    - the calling convention is System V's for x86-64: nothing, an interrupt
+ *      handler included, writes the 128 bytes below the stack pointer during
+ *      a call (this holds for the word functions too).
  *
  *  A refused call writes no byte of any buffer. No other memory of the
  *  caller's is touched, and no pointer is kept.
