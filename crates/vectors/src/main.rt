@@ -14,8 +14,8 @@
 use libc::STDIN_FILENO;
 use libc::STDOUT_FILENO;
 
-// Fills a buffer from standard input; whether there was enough.
-fn fill(buffer: &mut [u8]) -> bool {
+// Reads a whole buffer from standard input; whether there was enough.
+fn read_whole(buffer: &mut [u8]) -> bool {
     io::read_full(STDIN_FILENO, buffer) == buffer.len()
 }
 
@@ -65,10 +65,10 @@ fn tell_bytes(buffer: &[u8]) {
 
 // Reads the buffers of a page entry, makes the call and writes its line but for the end; whether they were there.
 fn replay_page(index: u32, entry: u8, page: &mut [u8], other: &mut [u8]) -> bool {
-    if !fill(page) {
+    if !read_whole(page) {
         return false;
     }
-    if !fill(other) {
+    if !read_whole(other) {
         return false;
     }
     tell_answer(index, entry, answer_page(entry, page, other));
@@ -113,7 +113,7 @@ fn replay(index: u32, header: &[u8; 13]) -> bool {
 // Reads the header of a call and replays it; whether there was one.
 fn replay_next(index: u32) -> bool {
     let mut header: [u8; 13] = [0; 13];
-    fill(&mut header) && replay(index, &header) && io::write_all(STDOUT_FILENO, b"\n")
+    read_whole(&mut header) && replay(index, &header) && io::write_all(STDOUT_FILENO, b"\n")
 }
 
 fn main() {
