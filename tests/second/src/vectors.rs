@@ -35,13 +35,18 @@ pub fn calls() -> Vec<Call> {
     script.listed_pages();
     script.both_rounds();
     script.capacities();
+    script.far_records();
     script.illegal_words();
     script.holes();
     script.flips();
     script.data_cells();
     script.headers();
-    script.lengths();
-    script.outputs();
+    script.not_blank();
+    script.other_rounds();
+    script.page_lengths();
+    script.data_lengths();
+    script.first_outputs();
+    script.second_outputs();
     script.orders();
     script.words();
     script.calls
@@ -115,7 +120,7 @@ impl Script {
         }
     }
 
-    /// Capacities from the most to the least: the longest record that fits, and one byte more; and records far too long.
+    /// Capacities from the most to the least: the longest record that fits, and one byte more.
     fn capacities(&mut self) {
         for sparse in [1, 5, 11, 22, 33, 43] {
             let values =
@@ -127,6 +132,10 @@ impl Script {
             let second = self.page(Entry::Rewrite, &first, record);
             self.page_with(Entry::ReadSecond, &second, most);
         }
+    }
+
+    /// Records far too long.
+    fn far_records(&mut self) {
         for length in FAR_RECORD_LENGTHS.into_iter().filter(|&length| length <= LENGTH_MOST) {
             let first = any_first(&mut self.random);
             self.page_with(Entry::Rewrite, &first, length);
@@ -188,11 +197,11 @@ impl Script {
         }
     }
 
-    /// States and header bytes out of their ranges, at the ends of these; pages that are not blank.
+    /// States and header bytes out of their ranges, at the ends of these.
     fn headers(&mut self) {
-        let changes = [(0, 0x00), (0, 0x02), (0, 0x06), (0, 0x81), (0, 0xFF)];
-        let lengths = [(1, 1), (1, 126), (1, 127), (1, 255), (2, 1), (2, 128)];
-        for (place, byte) in changes.into_iter().chain(lengths) {
+        let states = [(0, 0x00), (0, 0x02), (0, 0x06), (0, 0x81), (0, 0xFF)];
+        let header_bytes = [(1, 1), (1, 126), (1, 127), (1, 255), (2, 1), (2, 128)];
+        for (place, byte) in states.into_iter().chain(header_bytes) {
             let first = with_byte(any_first(&mut self.random), place, byte);
             for entry in Entry::OF_FIRST_PAGES {
                 self.page_with(entry, &first, 9);
@@ -200,20 +209,28 @@ impl Script {
             let second = with_byte(any_second(&mut self.random), place, byte);
             self.page_with(Entry::ReadSecond, &second, 126);
         }
+    }
+
+    /// Pages that are not blank, by one byte.
+    fn not_blank(&mut self) {
         for place in [0, 1, 2, 3, 255] {
             let page = with_byte(vec![0; PAGE_BYTES], place, self.random.byte_from(1));
             self.page_with(Entry::WriteFirst, &page, FIRST_BYTES);
         }
+    }
+
+    /// Valid pages of another round than the entry's.
+    fn other_rounds(&mut self) {
         let (first, second) = (any_first(&mut self.random), any_second(&mut self.random));
         self.page_with(Entry::WriteFirst, &first, FIRST_BYTES);
         self.page_with(Entry::ReadFirst, &second, FIRST_BYTES);
         self.page_with(Entry::ReadSecond, &first, 126);
     }
 
-    /// Wrong lengths of the page, and of the data.
-    fn lengths(&mut self) {
+    /// Wrong lengths of the page.
+    fn page_lengths(&mut self) {
         for length in WRONG_PAGE_LENGTHS {
-            for entry in [Entry::ReadFirst, Entry::PageCapacity, Entry::Rewrite] {
+            for entry in Entry::OF_FIRST_PAGES {
                 let first = any_first(&mut self.random);
                 let page = resized(&mut self.random, first, length);
                 self.page_with(entry, &page, 11);
@@ -223,17 +240,25 @@ impl Script {
             self.page_with(Entry::ReadSecond, &page, 126);
             self.page_with(Entry::WriteFirst, &vec![0; length], FIRST_BYTES);
         }
+    }
+
+    /// Wrong lengths of the data.
+    fn data_lengths(&mut self) {
         for length in [0, 4, 175, 177, 352] {
             self.page_with(Entry::WriteFirst, &[0; PAGE_BYTES], length);
         }
     }
 
-    /// Outputs one short, exact and longer.
-    fn outputs(&mut self) {
+    /// Outputs of read first: one short, exact and longer.
+    fn first_outputs(&mut self) {
         let first = any_first(&mut self.random);
         for length in [0, 1, 175, 176, 177, 300] {
             self.page_with(Entry::ReadFirst, &first, length);
         }
+    }
+
+    /// Outputs of read second: one short, exact and longer.
+    fn second_outputs(&mut self) {
         for (record, outputs) in [(0, [0, 1, 126]), (1, [0, 1, 2]), (82, [81, 82, 83]), (126, [125, 126, 180])] {
             let second = second_page(&first_page(&[2; WORDS]), &self.random.bytes(record));
             for length in outputs {
@@ -308,13 +333,14 @@ mod tests {
     #[test]
     fn size_and_variety() {
         let calls = calls();
-        assert!((450..=700).contains(&calls.len()), "{} calls", calls.len());
+        assert_eq!(calls.len(), 646);
         assert!(text_of(&calls).len() < 250_000);
         assert!(calls.iter().all(|call| call.page.len().max(call.other.len()) <= LENGTH_MOST));
-        let pages: HashSet<&Vec<u8>> = calls.iter().map(|call| &call.page).collect();
-        assert!(pages.len() >= 220, "{} pages", pages.len());
+        let pages: HashSet<_> = calls.iter().map(|call| &call.page).filter(|page| page.len() == PAGE_BYTES).collect();
+        assert_eq!(pages.len(), 297);
     }
 
+    /// Each entry is accepted, and refused by each of its numbers.
     #[test]
     fn every_entry_gives_every_answer() {
         let mut met = HashSet::new();

@@ -48,7 +48,7 @@ impl Fenced {
 
     /// The buffer's first byte; an empty buffer is null in every other case, as `wom.h` allows.
     fn start(&mut self) -> *mut u8 {
-        if self.length() == 0 && self.margin.is_multiple_of(2) {
+        if self.length() == 0 && self.margin & 1 == 0 {
             return ptr::null_mut();
         }
         self.bytes[self.margin..].as_mut_ptr()
@@ -265,7 +265,7 @@ fn run(seed: u64, cases: u64, plant: Option<Kind>) -> ExitCode {
     }
     run.check_coverage();
     print!("{}", run.coverage.table());
-    println!("systematic cases before the random ones: {}", systematic.len());
+    println!("differential: {} systematic cases before them", systematic.len());
     println!("differential: seed {seed}, {cases} cases, {} checks, {} wrong", run.checks, run.wrong);
     ExitCode::from(u8::from(run.wrong > 0))
 }

@@ -12,10 +12,12 @@ use crate::random::Random;
 /// A call of any entry, valid or damaged.
 pub fn any_call(random: &mut Random) -> Call {
     let entry = random.pick(&Entry::ALL);
-    match entry.takes_page() {
-        _ if random.one_in(2) => damage::any_combined(random, entry),
-        true => any_page_call(random, entry),
-        false => damage::any_word_call(random, entry),
+    if random.one_in(2) {
+        damage::any_combined(random, entry)
+    } else if entry.takes_page() {
+        any_page_call(random, entry)
+    } else {
+        damage::any_word_call(random, entry)
     }
 }
 

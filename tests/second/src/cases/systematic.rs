@@ -28,15 +28,18 @@ pub fn calls() -> Vec<Call> {
     let first = first_page(&[(); WORDS].map(|()| random.draw() as u32));
     let second = second_page(&first, &random.bytes(60));
     let mut walk = Walk { random, calls: Vec::new(), blank, first, second };
+    walk.values();
     walk.words();
     walk.headers();
     walk.illegal_words();
     walk.holes();
     walk.flips();
     walk.data_cells();
+    walk.named_lengths();
     walk.record_lengths();
     walk.output_lengths();
-    walk.other_lengths();
+    walk.page_lengths();
+    walk.data_lengths();
     walk.refusals();
     walk.calls
 }
@@ -52,20 +55,25 @@ impl Walk {
         self.calls.push(Call::of_page(entry, page.to_vec(), other));
     }
 
-    /// Calls with the other buffer long enough, and short enough.
+    /// Calls with the other buffer of a length that is not refused.
     fn pages(&mut self, entries: &[Entry], page: &[u8]) {
         for &entry in entries {
             self.page(entry, page, if entry == Entry::Rewrite { 40 } else { FIRST_BYTES });
         }
     }
 
-    /// Values and words at every weight, every pair of neighbours, every bit above cell 0, and sums about the limit.
-    fn words(&mut self) {
+    /// Values at every weight, listed values and the largest, and their words.
+    fn values(&mut self) {
         let weights = (0..CELLS).flat_map(|cell| [weight(cell) as u32 - 1, weight(cell) as u32]);
         for value in weights.chain(LISTED_VALUES).chain([u32::MAX - 1, u32::MAX]) {
             self.calls.push(Call::of_word(Entry::EncodeWord, u64::from(value)));
             self.word(number_of(&legal_word(value)));
         }
+    }
+
+    /// Every single bit, every pair of neighbours, sums about the limit, the largest sums, and the ends of 32, 46 and
+    /// 64 bits.
+    fn words(&mut self) {
         (0..64).for_each(|bit| self.word(1 << bit));
         (0..CELLS - 1).for_each(|cell| self.word(number_of(&with_neighbours([false; CELLS], cell))));
         (LARGEST_VALUE - 9..LARGEST_VALUE + 10).for_each(|sum| self.word(number_of(&cells_with_sum(sum))));
@@ -114,13 +122,17 @@ impl Walk {
         }
     }
 
-    /// Every data cell set by itself, in the record or spare, and every byte 1 that may name too much.
+    /// Every data cell set by itself, in the record or spare.
     fn data_cells(&mut self) {
         for base in [second_page(&first_page(&[0; WORDS]), &[0; 20]), self.second.clone()] {
             for place in 0..data_cells_of(&words_of(&base)).len() {
                 self.pages(&[Entry::ReadSecond], &with_data_cell(base.clone(), place));
             }
         }
+    }
+
+    /// Every byte 1 that may name too much.
+    fn named_lengths(&mut self) {
         for value in [0, 1, 3, SPARSE_VALUE] {
             let empty = second_page(&first_page(&[value; WORDS]), &[]);
             for length in 60..=130 {
@@ -156,14 +168,18 @@ impl Walk {
         }
     }
 
-    /// Every page length 0 to 520, and every data length 0 to 360.
-    fn other_lengths(&mut self) {
+    /// Every page length 0 to 520.
+    fn page_lengths(&mut self) {
         for length in 0..=520 {
             for base in [self.blank.clone(), self.first.clone(), self.second.clone()] {
                 let page = resized(&mut self.random, base, length);
                 self.pages(&Entry::OF_PAGES, &page);
             }
         }
+    }
+
+    /// Every data length 0 to 360.
+    fn data_lengths(&mut self) {
         (0..=360).for_each(|length| self.page(Entry::WriteFirst, &self.blank.clone(), length));
     }
 
@@ -175,5 +191,183 @@ impl Walk {
                 self.calls.push(call);
             }
         }
+    }
+}
+
+#[cfg(test)]
+mod tests {
+    use super::*;
+    use crate::answer::{number, value, Answer};
+    use crate::page::{page_capacity, BLANK, FIRST_ROUND, SECOND_ROUND};
+    use crate::word::{decode_word, read_back, Cells};
+    use std::collections::HashSet;
+    use std::fmt::Debug;
+    use std::hash::Hash;
+    use std::sync::OnceLock;
+
+    /// The call as it is before its performance, and its answer.
+    fn with_answer(call: Call) -> (Call, Answer) {
+        let answer = call.clone().perform();
+        (call, answer)
+    }
+
+    /// All systematic calls, performed once for all tests.
+    fn answered() -> &'static [(Call, Answer)] {
+        static ANSWERED: OnceLock<Vec<(Call, Answer)>> = OnceLock::new();
+        ANSWERED.get_or_init(|| calls().into_iter().map(with_answer).collect())
+    }
+
+    /// Each of the wanted is what `class` tells of some call of the entry.
+    fn occurs<T, W, F>(entry: Entry, wanted: W, class: F)
+    where
+        T: Debug + Eq + Hash,
+        W: IntoIterator<Item = T>,
+        F: Fn(&Call, Answer) -> Option<T>,
+    {
+        let of_entry = answered().iter().filter(|(call, _)| call.entry == entry);
+        let met: HashSet<T> = of_entry.filter_map(|(call, answer)| class(call, *answer)).collect();
+        for one in wanted {
+            assert!(met.contains(&one), "{}: never {one:?}", entry.name());
+        }
+    }
+
+    /// The state that the entry asks for, and the most that byte 1 may then be.
+    fn asked(entry: Entry) -> (u8, u8) {
+        match entry {
+            Entry::WriteFirst => (BLANK, 0),
+            Entry::ReadSecond => (SECOND_ROUND, 126),
+            _ => (FIRST_ROUND, 0),
+        }
+    }
+
+    /// Refused neither 1 nor 2, so that the page is looked at.
+    fn sound_lengths(answer: Answer) -> bool {
+        !matches!(number(answer), 1 | 2)
+    }
+
+    /// Accepted or refused 8, so that the record's length is looked at.
+    fn record_counts(answer: Answer) -> bool {
+        matches!(number(answer), 0 | 8)
+    }
+
+    /// Accepted or refused 3, so that the output's length is looked at.
+    fn output_counts(answer: Answer) -> bool {
+        matches!(number(answer), 0 | 3)
+    }
+
+    /// The word that 7 names, after its index.
+    fn refused_word(call: &Call, answer: Answer) -> Option<(usize, Cells)> {
+        let index = value(answer) as usize;
+        (number(answer) == 7).then(|| (index, words_of(&call.page)[index]))
+    }
+
+    /// Where a word that is not well formed has its hole.
+    fn hole_of(cells: &Cells) -> &'static str {
+        let data = read_back(cells);
+        let separators: Vec<usize> = (0..CELLS).filter(|cell| cells[*cell] && !data.contains(cell)).collect();
+        match (separators.first(), separators.last()) {
+            (None, _) => "everywhere",
+            (Some(&first), _) if first > 1 => "start",
+            (_, Some(&last)) if last < CELLS - 2 => "end",
+            _ => "middle",
+        }
+    }
+
+    /// Which capacity a first-round page has.
+    fn capacity_kind(first: &[u8]) -> &'static str {
+        match page_capacity(first) {
+            Ok(660) => "least",
+            Ok(1_012) => "most",
+            _ => "middle",
+        }
+    }
+
+    #[test]
+    fn the_number_of_calls() {
+        assert_eq!(answered().len(), 46_740);
+    }
+
+    #[test]
+    fn every_state_byte() {
+        for entry in Entry::OF_PAGES {
+            occurs(entry, 0..=255, |call, answer| sound_lengths(answer).then(|| call.page[0]));
+        }
+    }
+
+    /// Every page entry looks at both: write first asks that each byte be 0.
+    #[test]
+    fn every_byte_1_and_every_byte_2_under_a_sound_state() {
+        for entry in Entry::OF_PAGES {
+            let (state, most) = asked(entry);
+            let sound = |call: &Call, answer| sound_lengths(answer) && call.page[0] == state;
+            occurs(entry, 0..=255, |call, answer| (sound(call, answer) && call.page[2] == 0).then(|| call.page[1]));
+            occurs(entry, 0..=255, |call, answer| (sound(call, answer) && call.page[1] <= most).then(|| call.page[2]));
+        }
+    }
+
+    /// "11 if two neighbours are set, 12 if the sum exceeds 4294967295".
+    #[test]
+    fn every_word_not_legal_for_each_reason() {
+        let reason = |(index, cells): (usize, Cells)| (index, number(decode_word(number_of(&cells))));
+        for entry in Entry::OF_FIRST_PAGES {
+            let wanted = (0..WORDS).flat_map(|index| [(index, 11), (index, 12)]);
+            occurs(entry, wanted, |call, answer| refused_word(call, answer).map(reason));
+        }
+    }
+
+    #[test]
+    fn every_word_with_each_hole() {
+        let holes = ["start", "middle", "end", "everywhere"];
+        let wanted = (0..WORDS).flat_map(|index| holes.map(|hole| (index, hole)));
+        let reason = |(index, cells): (usize, Cells)| (index, hole_of(&cells));
+        occurs(Entry::ReadSecond, wanted, |call, answer| refused_word(call, answer).map(reason));
+    }
+
+    #[test]
+    fn every_record_length_over_the_least_a_middle_and_the_most_capacity() {
+        let kinds = ["least", "middle", "most"];
+        let wanted = (0..=130).flat_map(|length| kinds.map(|kind| (kind, length)));
+        let met = |call: &Call| (capacity_kind(&call.page), call.other.len());
+        occurs(Entry::Rewrite, wanted, |call, answer| record_counts(answer).then(|| met(call)));
+    }
+
+    #[test]
+    fn every_record_length_read_back() {
+        occurs(Entry::ReadSecond, 0..=126, |_, answer| answer.ok());
+    }
+
+    #[test]
+    fn every_output_length() {
+        for entry in [Entry::ReadFirst, Entry::ReadSecond] {
+            occurs(entry, 0..=180, |call, answer| output_counts(answer).then_some(call.other.len()));
+        }
+    }
+
+    #[test]
+    fn outputs_one_short_exact_and_longer() {
+        let met = |call: &Call, answer| (call.other.len(), number(answer));
+        occurs(Entry::ReadFirst, [(175, 3), (176, 0), (177, 0)], |call, answer| Some(met(call, answer)));
+        for record in [1, 82, 126] {
+            let wanted = [(record - 1, 3), (record, 0), (record + 1, 0)];
+            let named = |call: &Call| usize::from(call.page[1]) == record;
+            occurs(Entry::ReadSecond, wanted, |call, answer| {
+                (output_counts(answer) && named(call)).then(|| met(call, answer))
+            });
+        }
+    }
+
+    /// 0, 175 to 177 and 255 to 257 among them.
+    #[test]
+    fn every_page_length_up_to_520() {
+        for entry in Entry::OF_PAGES {
+            let sound = |call: &Call| call.page.is_empty() || call.page[0] == asked(entry).0;
+            occurs(entry, 0..=520, |call, _| sound(call).then_some(call.page.len()));
+        }
+    }
+
+    /// 0, 175 to 177 and 255 to 257 among them.
+    #[test]
+    fn every_data_length_up_to_360() {
+        occurs(Entry::WriteFirst, 0..=360, |call, _| (call.page == [0; PAGE_BYTES]).then_some(call.other.len()));
     }
 }
