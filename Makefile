@@ -9,8 +9,9 @@ test:
 
 # A page's life in a logger, then the listing of the pages that it leaves.
 demo: archive
-	rt check listing >target/demo.log || { cat target/demo.log; exit 1; }
-	mkdir -p target/demo
+	@echo 'proving and compiling the listing program (target/listing.log)'
+	@rt check listing >target/listing.log 2>&1 || { cat target/listing.log; exit 1; }
+	@mkdir -p target/demo
 	$(CC99) -o target/demo/logger examples/logger.c target/staticlib/libwom.a
 	@echo
 	@target/demo/logger target/demo/pages.bin
@@ -20,7 +21,8 @@ demo: archive
 # The archive for C programs, with include/wom.h.
 archive:
 	@mkdir -p target
-	rt staticlib wom >target/archive.log || { cat target/archive.log; exit 1; }
+	@echo 'proving and compiling the library (target/archive.log)'
+	@rt staticlib wom >target/archive.log 2>&1 || { cat target/archive.log; exit 1; }
 
 # Instructions per call, beside plain C.
 bench: archive
