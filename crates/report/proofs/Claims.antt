@@ -8,26 +8,26 @@ use native.Mathlib.Omega.{arith}
 use lib.ListN.{length, replicate}
 use Rattle.cells.specs.Cells.{first, number, bit, cells}
 use Rattle.cells.specs.Bytes.{bits, Bytes}
-use Rattle.cells.specs.Words.{pageWords}
+use Rattle.answer.specs.Answer.{Answer, result, refusal, among}
+use Rattle.window.specs.Words.{pageWords}
 use Rattle.word.specs.Word.{seriesFrom, weight, zeckendorf}
 use Rattle.word.specs.Fill.{fillFrom, fill, readFrom, read, capacity}
-use Rattle.word.specs.Answer.{Answer, result, refusal}
-use Rattle.word.specs.Examples.{among}
-use Rattle.page.specs.Page.{state, byte1, blankOf, firstWords, firstPage, capacityAll}
-use Rattle.page.specs.Answer.{pageCapacityAnswer, readSecondAnswer}
-use Rattle.page.specs.Demands.{blank, Sized, FirstRound, SecondRound, dataCells}
-use Rattle.page.proofs.Acceptance.{page-capacity, read-second}
-use Rattle.page.proofs.Capacities.{capacity-is}
-use Rattle.page.proofs.FirstPages.{first-written, words-written}
-use Rattle.page.proofs.Laid.{form}
-use Rattle.page.proofs.Refusals.{page-capacity-1567, page-capacity-by, read-second-1, read-second-5, read-second-by}
-use Rattle.report.specs.declared.Kind.{Kind}
-use Rattle.report.specs.declared.Kind.the-variants.{Blank, First, Second, Bad}
+use Rattle.rows.specs.Page.{state, byte1, blankOf, firstWords, firstPage, capacityAll, page256}
+use Rattle.page.specs.Answer.{pageCapacityAnswer}
+use Rattle.second.specs.Answer.{readSecondAnswer}
+use Rattle.second.proofs.SecondAnswers.{read-second, read-second-1, read-second-5}
+use Rattle.demands.specs.Demands.{blank, Sized, FirstRound, SecondRound, dataCells}
+use Rattle.demands.proofs.Bounds.{capacity-is}
+use Rattle.demands.proofs.Demands.{demand1, demand3}
+use Rattle.demands.proofs.FirstPages.{first-written, words-written}
+use Rattle.demands.proofs.Laid.{sound256}
 use Rattle.report.specs.Kinds.{kindBy, kindOf}
 use Rattle.report.specs.Lines.{ascii, digits, decimal, lineOf}
 use Rattle.report.specs.Claims.{KindsExact, LinesRight}
 use Rattle.report.proofs.Deciding.{kind-not-sized, kind-00, kind-01, kind-07, kind-unknown, WhyBad, not-sized, not-blank, unknown, first-bad, second-bad, blank-or-bad, kind-why, second-fits, bad-among}
 use Rattle.report.proofs.Decimals.{decimal-value, decimal-digit, decimal-first}
+use Rattle.report.specs.declared.Kind.{Kind}
+use Rattle.report.specs.declared.Kind.the-variants.{Blank, First, Second, Bad}
 
 -- ---- kinds
 
@@ -39,18 +39,18 @@ blank-kind = kind-00 blank refl refl ∙ ⊎-elim (λ h. h .1) (λ h. absurd (h 
 -- `first` is what page capacity accepts
 first-page : (P : List ℕ) (c : ℕ) → Bytes P → (kindOf P ≡ First c) ↔ (FirstRound P × (c ≡ dataCells P))
 first-page P c b = (
-  λ e. page-capacity P c b .0 (kind-why P (First c) e),
-  λ h. kind-01 P (h .0 .sized) (h .0 .in-state) ∙ ap (kindBy First) (page-capacity P c b .1 h),
+  λ e. demand1 .page-capacity P c b .0 (kind-why P (First c) e),
+  λ h. kind-01 P (h .0 .sized) (h .0 .in-state) ∙ ap (kindBy First) (demand1 .page-capacity P c b .1 h),
 )
 
 -- `second` is what read second accepts, since every record fits its output
 second-page : (P : List ℕ) (n : ℕ) → Bytes P → (kindOf P ≡ Second n) ↔ (SecondRound P × (n ≡ byte1 P))
 unfolding blankOf
 second-page P n b = (
-  λ e. let r = read-second P (blankOf 126) n b .0 (kind-why P (Second n) e) in (r .0, r .1),
+  λ e. let r = demand1 .read-second P (blankOf 126) n b .0 (kind-why P (Second n) e) in (r .0, r .1),
   λ h.
       kind-07 P (h .0 .sized) (h .0 .in-state)
-      ∙ ap (kindBy Second) (read-second P (blankOf 126) n b .1 (h .0, h .1, omega (arith, h .0 .byte1-most))),
+      ∙ ap (kindBy Second) (demand1 .read-second P (blankOf 126) n b .1 (h .0, h .1, omega (arith, h .0 .byte1-most))),
 )
 
 -- either reader refuses by 1 only what is not sized
@@ -58,8 +58,8 @@ why-1 : (P : List ℕ) → WhyBad P 1 → ¬ Sized P
 why-1 P (not-sized _ h) = h
 why-1 P (not-blank e _ _ _) = absurd (omega arith)
 why-1 P (unknown e _ _ _ _) = absurd (omega arith)
-why-1 P (first-bad i _ a) = page-capacity-1567 P .one i .0 a .0
-why-1 P (second-bad i _ a) = read-second-1 P (blankOf 126) i .0 a .0
+why-1 P (first-bad i _ a) = demand1 .page-capacity-1567 P .one i .0 a .0
+why-1 P (second-bad i _ a) = demand1 .read-second-1 P (blankOf 126) i .0 a .0
 
 -- neither refuses by 4
 why-4 : (P : List ℕ) → WhyBad P 4 → Sized P × (state P ≡ 0) × ¬ (P ≡ blank)
@@ -67,16 +67,16 @@ unfolding among
 why-4 P (not-sized e _) = absurd (omega arith)
 why-4 P (not-blank _ z s h) = (z, s, h)
 why-4 P (unknown e _ _ _ _) = absurd (omega arith)
-why-4 P (first-bad i _ a) = absurd (page-capacity-by P .listed 4 i a)
-why-4 P (second-bad i _ a) = absurd (read-second-by P (blankOf 126) .listed 4 i a)
+why-4 P (first-bad i _ a) = absurd (demand1 .page-capacity-by P .listed 4 i a)
+why-4 P (second-bad i _ a) = absurd (demand1 .read-second-by P (blankOf 126) .listed 4 i a)
 
 -- neither refuses by 5 a page in its own state
 why-5 : (P : List ℕ) → WhyBad P 5 → Sized P × ¬ (state P ≡ 0) × ¬ (state P ≡ 1) × ¬ (state P ≡ 7)
 why-5 P (not-sized e _) = absurd (omega arith)
 why-5 P (not-blank e _ _ _) = absurd (omega arith)
 why-5 P (unknown _ z s0 s1 s7) = (z, s0, s1, s7)
-why-5 P (first-bad i s a) = absurd (page-capacity-1567 P .five i .0 a .1 s)
-why-5 P (second-bad i s a) = absurd (read-second-5 P (blankOf 126) i .0 a .1 s)
+why-5 P (first-bad i s a) = absurd (demand1 .page-capacity-1567 P .five i .0 a .1 s)
+why-5 P (second-bad i s a) = absurd (demand1 .read-second-5 P (blankOf 126) i .0 a .1 s)
 
 -- state 00 with another byte set
 bad-4 : (P : List ℕ) → Sized P × (state P ≡ 0) × ¬ (P ≡ blank) → kindOf P ≡ Bad 4
@@ -124,14 +124,14 @@ abbrev zeroRecord : List ℕ
 zeroRecord = replicate 176 0
 
 abbrev zeroPage : List ℕ
-zeroPage = firstPage 44 blank zeroRecord
+zeroPage = firstPage page256 blank zeroRecord
 
 -- it is a first-round page, and its words are those of the record
 zero-first : FirstRound zeroPage
-zero-first = first-written form refl zeroRecord
+zero-first = first-written sound256 refl zeroRecord
 
 zero-words : pageWords zeroPage 44 ≡ firstWords 44 zeroRecord
-zero-words = words-written form refl zeroRecord
+zero-words = words-written sound256 refl zeroRecord
 
 -- they have 44 times 23 data cells
 zero-capacity : capacityAll (firstWords 44 zeroRecord) ≡ 1012
@@ -141,7 +141,7 @@ zero-capacity = refl
 -- so its kind has 1012
 zero-kind : kindOf zeroPage ≡ First 1012
 zero-kind =
-    let c : 1012 ≡ dataCells zeroPage = sym (ap capacityAll zero-words ∙ zero-capacity) ∙ capacity-is zeroPage zero-first in
+    let c : 1012 ≡ dataCells zeroPage = sym (ap capacityAll zero-words ∙ zero-capacity) ∙ demand3 .capacity-is zeroPage zero-first in
     first-page zeroPage 1012 (zero-first .of-bytes) .1 (zero-first, c)
 
 -- the two lines

@@ -1,29 +1,27 @@
 -- Which kind a piece has, by its length and its state, and why. Assumes nothing.
-use mathlib.Core.Bool.{Bool, true, false, _||_}
+use mathlib.Core.Bool.{Bool, true, false}
 use mathlib.Core.List.{List, [], _∷_}
 use mathlib.Core.Logic.{_⊎_, inl, inr, ⊎-elim}
 use mathlib.Core.Path.{_≡_, refl, sym, ap, _∙_, subst}
-use Prim.Native.Nat.{ℕ, _*_, _≤_}
+use Prim.Native.Nat.{ℕ, _≤_}
 use native.Mathlib.Decide.{ℕ-discrete}
 use native.Mathlib.Omega.{arith}
-use borrow.Author.Tests.{ltb-false, eqb-true, eq-eqb, ne-eqb}
+use borrow.Author.Tests.{ltb-false, eq-eqb, ne-eqb, le-ltb}
 use lib.Dec.{T, eqb, ltb, eqb→eq}
-use lib.ListN.{length, drop}
+use lib.ListN.{length}
 use mir.Facts.{and-yes}
-use Rattle.word.specs.Fill.{wellFormed}
-use Rattle.word.specs.Answer.{Answer, result, refusal}
-use Rattle.word.specs.Examples.{among}
-use Rattle.word.proofs.Tests.{holds}
-use Rattle.page.specs.Page.{state, byte1, byte2, zeros, someSet, isBlank, blankOf}
-use Rattle.page.specs.Answer.{ifSecondRound, pageCapacityAnswer, readSecondAnswer}
-use Rattle.page.specs.Demands.{blank, Sized, secondBits, RefusesBy}
-use Rattle.page.proofs.Acceptance.{zeros-blank, blank-zeros}
-use Rattle.page.proofs.Rounds.{long-taken}
-use Rattle.page.proofs.Refusals.{page-capacity-by}
-use Rattle.page.proofs.Refusing.{unequal, less, itself, either, by-result, by-refuse, headed-by, word-by}
+use Rattle.cells.specs.Bytes.{zeros}
+use Rattle.cells.proofs.Tests.{holds}
+use Rattle.answer.specs.Answer.{Answer, result, refusal, among, answer, numbers}
+use Rattle.answer.proofs.Chains.{no-other, last-passed, within}
+use Rattle.rows.specs.Page.{state, byte1, isBlank, blankOf, page256}
+use Rattle.rows.proofs.Blank.{zeros-blank, blank-zeros}
+use Rattle.page.specs.Answer.{pageCapacityAnswer, firstChecks}
+use Rattle.second.specs.Answer.{readSecondAnswer, secondChecks, readSecondChecks}
+use Rattle.demands.specs.Demands.{blank, Sized}
+use Rattle.report.specs.Kinds.{kindBy, kindOf, blankKind}
 use Rattle.report.specs.declared.Kind.{Kind}
 use Rattle.report.specs.declared.Kind.the-variants.{Blank, First, Second, Bad}
-use Rattle.report.specs.Kinds.{kindBy, kindOf, blankKind}
 
 module _ (P : List ℕ) where
   pub kind-not-sized : ¬ (length P ≡ 256) → kindOf P ≡ Bad 1
@@ -110,38 +108,15 @@ module _ (P : List ℕ) where
 -- ---- the numbers of `bad`
 
 -- with an output that every record fits, read second has no refusal 3
-pub second-fits : (P out : List ℕ) → 126 ≤ length out → readSecondAnswer P out ≡ ifSecondRound 44 256 126 P (result (byte1 P))
-unfolding readSecondAnswer ifSecondRound
+pub second-fits : (P out : List ℕ) → 126 ≤ length out → readSecondAnswer P out ≡ answer (secondChecks page256 P) (byte1 P)
+unfolding answer secondChecks readSecondChecks
 second-fits P out h = go (ltb 126 (byte1 P)) refl
   where
-    go : (b : Bool) → ltb 126 (byte1 P) ≡ b → readSecondAnswer P out ≡ ifSecondRound 44 256 126 P (result (byte1 P))
+    go : (b : Bool) → ltb 126 (byte1 P) ≡ b → readSecondAnswer P out ≡ answer (secondChecks page256 P) (byte1 P)
     go true e = rw e refl
     go false e =
         let l = ltb-false 126 (byte1 P) e in
-        ap (ifSecondRound 44 256 126 P) (long-taken (length out) (byte1 P) 3 0 (result (byte1 P)) (omega arith))
-
--- then it refuses by these
-second-by : (P : List ℕ) (x : ℕ) → RefusesBy (1 ∷ 5 ∷ 6 ∷ 7 ∷ 9 ∷ []) (ifSecondRound 44 256 126 P (result x))
-unfolding ifSecondRound
-second-by P x =
-    headed-by (unequal (length P) 256) (unequal (state P) 7) (either (less 126 (byte1 P)) (unequal (byte2 P) 0))
-    (word-by wellFormed P
-    (by-refuse 9 0 (either (less (length (secondBits P)) (8 * byte1 P)) (itself (someSet (drop (8 * byte1 P) (secondBits P))))) (by-result x)))
-
--- each number of a list is among others
-abbrev Within : List ℕ → List ℕ → Type 0
-Within [] ms = Unit {0}
-Within (m ∷ ns) ms = T (among m ms) × Within ns ms
-
--- so a number that is among the list is among the others
-within : (n : ℕ) (ns ms : List ℕ) → Within ns ms → T (among n ns) → T (among n ms)
-unfolding among
-within n [] ms w h = absurd h
-within n (m ∷ ns) ms w h = go (eqb n m) refl h (within n ns ms (w .1))
-  where
-    go : (b : Bool) → eqb n m ≡ b → T (b || among n ns) → (T (among n ns) → T (among n ms)) → T (among n ms)
-    go true e t r = rw (eqb-true n m e) (w .0)
-    go false e t r = r t
+        last-passed (secondChecks page256 P) (ltb (length out) (byte1 P)) 3 0 (byte1 P) (le-ltb (length out) (byte1 P) (omega arith))
 
 -- document 01's
 abbrev badNumbers : List ℕ
@@ -149,11 +124,11 @@ badNumbers = 1 ∷ 4 ∷ 5 ∷ 6 ∷ 7 ∷ 9 ∷ []
 
 -- a bad piece's number is one of these
 pub bad-among : (P : List ℕ) (n : ℕ) → WhyBad P n → T (among n badNumbers)
-unfolding among blankOf
+unfolding among numbers firstChecks secondChecks blankOf
 bad-among P n (not-sized e _) = rw e tt
 bad-among P n (not-blank e _ _ _) = rw e tt
 bad-among P n (unknown e _ _ _ _) = rw e tt
-bad-among P n (first-bad i s e) = within n (1 ∷ 5 ∷ 6 ∷ 7 ∷ []) badNumbers (tt, (tt, (tt, (tt, tt)))) (page-capacity-by P .listed n i e)
+bad-among P n (first-bad i s e) = within n (1 ∷ 5 ∷ 6 ∷ 7 ∷ []) badNumbers (tt, (tt, (tt, (tt, tt)))) (no-other (firstChecks page256 P) _ .listed n i e)
 bad-among P n (second-bad i s e) =
     within n (1 ∷ 5 ∷ 6 ∷ 7 ∷ 9 ∷ []) badNumbers (tt, (tt, (tt, (tt, (tt, tt)))))
-    (second-by P (byte1 P) .listed n i (sym (second-fits P (blankOf 126) (omega arith)) ∙ e))
+    (no-other (secondChecks page256 P) (byte1 P) .listed n i (sym (second-fits P (blankOf 126) (omega arith)) ∙ e))

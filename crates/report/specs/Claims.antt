@@ -1,4 +1,4 @@
--- What holds of kinds and lines for every piece of input. proofs/Claims.antt proves it. page/specs/Demands.antt says how to read a clause.
+-- What holds of kinds and lines for every piece of input. proofs/Claims.antt proves it. demands/specs/Demands.antt says how to read a clause.
 -- Assumes nothing.
 use mathlib.Core.List.{List, [], _∷_, _++_}
 use mathlib.Core.Logic.{_↔_}
@@ -7,14 +7,14 @@ use Prim.Native.Nat.{ℕ, _+_, _*_, _-_, _≤_, _<_}
 use lib.Dec.{T}
 use lib.ListN.{length, getD, replicate}
 use Rattle.cells.specs.Bytes.{Bytes}
-use Rattle.word.specs.Answer.{refusal}
-use Rattle.word.specs.Examples.{among}
-use Rattle.page.specs.Page.{state, byte1, firstPage}
-use Rattle.page.specs.Answer.{pageCapacityAnswer, readSecondAnswer}
-use Rattle.page.specs.Demands.{blank, Sized, FirstRound, SecondRound, dataCells}
-use Rattle.report.specs.declared.Kind.the-variants.{Blank, First, Second, Bad}
+use Rattle.answer.specs.Answer.{refusal, among}
+use Rattle.rows.specs.Page.{page256, state, byte1, firstPage}
+use Rattle.page.specs.Answer.{pageCapacityAnswer}
+use Rattle.second.specs.Answer.{readSecondAnswer}
+use Rattle.demands.specs.Demands.{blank, Sized, FirstRound, SecondRound, dataCells}
 use Rattle.report.specs.Kinds.{kindOf}
 use Rattle.report.specs.Lines.{ascii, decimal, lineOf}
+use Rattle.report.specs.declared.Kind.the-variants.{Blank, First, Second, Bad}
 
 -- Each kind is given just where document 01 says, and `bad` has no other number than the six it names.
 pub record KindsExact : Type 0 where
@@ -42,4 +42,4 @@ pub record LinesRight : Type 0 where
   pub digit : (n i : ℕ) → i < length (decimal n) → (48 ≤ getD (decimal n) i 0) × (getD (decimal n) i 0 < 58)
   pub no-zero-first : (n : ℕ) → 0 < n → ¬ (getD (decimal n) 0 0 ≡ 48)
   -- "For a blank page followed by a page made from 176 zero bytes the whole output is"
-  pub example : lineOf 0 (kindOf blank) ++ lineOf 1 (kindOf (firstPage 44 blank (replicate 176 0))) ≡ ascii "0 blank 0\n1 first 1012\n"
+  pub example : lineOf 0 (kindOf blank) ++ lineOf 1 (kindOf (firstPage page256 blank (replicate 176 0))) ≡ ascii "0 blank 0\n1 first 1012\n"

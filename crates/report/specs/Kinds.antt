@@ -5,9 +5,10 @@ use mathlib.Core.List.{List}
 use Prim.Native.Nat.{ℕ}
 use lib.Dec.{eqb}
 use lib.ListN.{length}
-use Rattle.word.specs.Answer.{Answer, result, refusal}
-use Rattle.page.specs.Page.{state, isBlank, blankOf}
-use Rattle.page.specs.Answer.{pageCapacityAnswer, readSecondAnswer}
+use Rattle.answer.specs.Answer.{Answer, result, refusal}
+use Rattle.rows.specs.Page.{state, isBlank, blankOf}
+use Rattle.page.specs.Answer.{pageCapacityAnswer}
+use Rattle.second.specs.Answer.{readSecondAnswer}
 use Rattle.report.specs.declared.Kind.{Kind}
 use Rattle.report.specs.declared.Kind.the-variants.{Blank, First, Second, Bad}
 

@@ -1,12 +1,13 @@
 // The kind of a piece of input, by its state and by what the page's readers answer.
 use crate::Kind;
 use page::Measured;
-use page::SecondRead;
+use second::SecondRead;
 ghost use mathlib.Core.Path.{_≡_};
-ghost use Rattle.page.specs.Answer.{measuredCode, secondReadCode, readSecondAnswer};
-ghost use Rattle.page.specs.Page.{blankOf};
-ghost use Rattle.report.specs.declared.Kind.the-variants.{First, Second};
+ghost use Rattle.rows.specs.Page.{blankOf};
+ghost use Rattle.page.specs.Answer.{measuredCode};
+ghost use Rattle.second.specs.Answer.{secondReadCode, readSecondAnswer};
 ghost use Rattle.report.specs.Kinds.{kindBy, kindOf, blankKind};
+ghost use Rattle.report.specs.declared.Kind.the-variants.{First, Second};
 
 // The kind that page capacity's answer makes.
 fn kind_measured(m: Measured) -> Kind
@@ -41,7 +42,7 @@ fn second_kind(piece: &[u8]) -> Kind
     ensures { λ r. ⌜ r ≡ kindBy Second (readSecondAnswer (now (piece .entry)) (blankOf 126)) ⌝ }
 {
     let mut second: [u8; 126] = [0; 126];
-    kind_read(page::read_second(piece, &mut second))
+    kind_read(second::read_second(piece, &mut second))
 }
 
 // The kind of a page in state 00.

@@ -4,40 +4,19 @@
 // the capacity for 8, else 0. Every entry is defined for every argument.
 use page::FirstRead;
 use page::FirstWritten;
-use page::Rewritten;
-use page::SecondRead;
+use second::Rewritten;
+use second::SecondRead;
 use word::Decoded;
 use word::Filled;
 use word::Measured;
 ghost use mathlib.Core.Path.{_≡_};
 ghost use Prim.Native.Nat.{_<_};
-ghost use Rattle.page.specs.Answer.{
-  writeFirstAnswer,
-  writeFirstLeaves,
-  readFirstAnswer,
-  readFirstLeaves,
-  pageCapacityAnswer,
-  rewriteAnswer,
-  rewriteLeaves,
-  readSecondAnswer,
-  readSecondLeaves,
-  firstWrittenCode,
-  firstReadCode,
-  rewrittenCode,
-  secondReadCode,
-};
+ghost use Rattle.answer.specs.Answer.{refusal};
+ghost use Rattle.answer.specs.Layout.{packed};
+ghost use Rattle.word.specs.Answer.{encodeAnswer, decodeAnswer, fillAnswer, capacityAnswer, decodedCode, filledCode, measuredCode};
+ghost use Rattle.page.specs.Answer.{writeFirstAnswer, writeFirstLeaves, readFirstAnswer, readFirstLeaves, pageCapacityAnswer, firstWrittenCode, firstReadCode};
+ghost use Rattle.second.specs.Answer.{rewriteAnswer, rewriteLeaves, readSecondAnswer, readSecondLeaves, rewrittenCode, secondReadCode};
 ghost use Rattle.page.specs.Answer as pages;
-ghost use Rattle.word.specs.Answer.{
-  encodeAnswer,
-  decodeAnswer,
-  fillAnswer,
-  capacityAnswer,
-  decodedCode,
-  filledCode,
-  measuredCode,
-  refusal,
-};
-ghost use Rattle.wom.specs.Packed.{packed};
 
 const PAGE_LENGTH: u64 = 1 << 56;
 
@@ -218,7 +197,7 @@ pub extern "C" fn wom_rewrite(page: &mut [u8], second: &[u8]) -> u64
     ensures answer { λ r. ⌜ r ≡ packed (rewriteAnswer (now (page .entry)) (now (second .entry))) ⌝ }
     ensures bytes { λ _. ⌜ now (page .exit) ≡ rewriteLeaves (now (page .entry)) (now (second .entry)) ⌝ }
 {
-    pack_rewritten(page::rewrite(page, second))
+    pack_rewritten(second::rewrite(page, second))
 }
 
 fn pack_second_read(s: SecondRead) -> u64
@@ -241,5 +220,5 @@ pub extern "C" fn wom_read_second(page: &[u8], out: &mut [u8]) -> u64
     ensures answer { λ r. ⌜ r ≡ packed (readSecondAnswer (now (page .entry)) (now (out .entry))) ⌝ }
     ensures bytes { λ _. ⌜ now (out .exit) ≡ readSecondLeaves (now (page .entry)) (now (out .entry)) ⌝ }
 {
-    pack_second_read(page::read_second(page, out))
+    pack_second_read(second::read_second(page, out))
 }

@@ -1,7 +1,7 @@
 -- `kinds::blank_kind` meets its contract: blank or not.
 -- Assumes nothing.
-use mathlib.Core.Path.{sym, ap, _∙_}
 use mathlib.Core.Bool.{Bool, cond}
+use mathlib.Core.Path.{sym, ap, _∙_}
 use borrow.Author.Needs.{needs}
 use Rattle.report.specs.declared.Kind.the-variants.{Blank, Bad}
 use Rattle.report.proofs.kinds.blank_kind.Statement.{statement}

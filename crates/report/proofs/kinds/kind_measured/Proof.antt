@@ -3,8 +3,8 @@
 use mathlib.Core.Path.{sym, ap}
 use borrow.Author.Needs.{needs}
 use Rattle.page.specs.Answer.{measuredCode}
-use Rattle.report.specs.declared.Kind.the-variants.{First}
 use Rattle.report.specs.Kinds.{kindBy}
+use Rattle.report.specs.declared.Kind.the-variants.{First}
 use Rattle.report.proofs.kinds.kind_measured.Statement.{statement}
 use Rattle.report.proofs.kinds.kind_measured.Tie as tie
 

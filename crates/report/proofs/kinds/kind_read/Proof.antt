@@ -2,9 +2,9 @@
 -- Assumes nothing.
 use mathlib.Core.Path.{sym, ap}
 use borrow.Author.Needs.{needs}
-use Rattle.page.specs.Answer.{secondReadCode}
-use Rattle.report.specs.declared.Kind.the-variants.{Second}
+use Rattle.second.specs.Answer.{secondReadCode}
 use Rattle.report.specs.Kinds.{kindBy}
+use Rattle.report.specs.declared.Kind.the-variants.{Second}
 use Rattle.report.proofs.kinds.kind_read.Statement.{statement}
 use Rattle.report.proofs.kinds.kind_read.Tie as tie
 

@@ -2,9 +2,10 @@
 -- Assumes nothing.
 use mathlib.Core.Path.{ap, _∙_}
 use borrow.Author.Needs.{needs}
-use Rattle.page.specs.Page.{blankOf}
-use Rattle.report.specs.declared.Kind.the-variants.{Second}
+use Rattle.rows.specs.Page.{blankOf}
+use Rattle.second.proofs.SecondAnswers.{read-second}
 use Rattle.report.specs.Kinds.{kindBy}
+use Rattle.report.specs.declared.Kind.the-variants.{Second}
 use Rattle.report.proofs.kinds.second_kind.Statement.{statement}
 use Rattle.report.proofs.kinds.second_kind.Tie as tie
 

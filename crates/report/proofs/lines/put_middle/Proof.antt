@@ -1,11 +1,11 @@
 -- `lines::put_middle` meets its contract: each kind has its text.
 -- Assumes nothing.
-use mathlib.Core.Path.{_≡_, subst⁻¹}
 use mathlib.Core.List.{List}
+use mathlib.Core.Path.{_≡_, subst⁻¹}
 use Prim.Native.Nat.{ℕ, _+_}
+use borrow.Author.Needs.{needs}
 use lib.ListN.{length}
 use lib.Seq.{sets}
-use borrow.Author.Needs.{needs}
 use Rattle.report.specs.declared.Kind.{Kind}
 use Rattle.report.specs.Lines.{middleOf}
 use Rattle.report.proofs.lines.put_middle.Statement.{statement}

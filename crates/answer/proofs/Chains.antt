@@ -1,0 +1,132 @@
+-- Laws of a list of checks, and of what an answer leaves in a buffer.
+-- Assumes nothing.
+use mathlib.Core.Bool.{Bool, true, false, _||_}
+use mathlib.Core.List.{List, [], _∷_, _++_}
+use mathlib.Core.Logic.{_↔_}
+use mathlib.Core.Path.{_≡_, refl, sym, ap, _∙_, subst}
+use Prim.Native.Nat.{ℕ, _^_, _<_}
+use native.Mathlib.Omega.{arith}
+use borrow.Author.Tests.{eq-eqb, eqb-true}
+use lib.Dec.{T, eqb}
+use lib.ListN.{length, drop}
+use Rattle.cells.specs.Bytes.{atStart}
+use Rattle.answer.specs.Answer.{Answer, result, refusal, Check, refuse, answer, after, None, numbers, among, RefusesBy}
+use Rattle.answer.specs.Layout.{Faithful, Small}
+
+-- ---- the answer of a list
+
+-- accepted exactly where no condition holds
+pub accepted : (cs : List Check) (x v : ℕ) → (answer cs x ≡ result v) ↔ (None cs × (v ≡ x))
+unfolding answer
+accepted [] x v = (λ e. (tt, cc), λ h. ap result (sym (h .1)))
+accepted (refuse true m j ∷ cs) x v = (λ e. let z : _≡_ {A = ℕ} 0 1 = cc in absurd (omega arith), λ h. absurd (subst T (h .0 .0) tt))
+accepted (refuse false m j ∷ cs) x v = (
+  λ e. let p = accepted cs x v .0 e in ((refl, p .0), p .1),
+  λ h. accepted cs x v .1 (h .0 .1, h .1),
+)
+
+-- a refusal does not depend on what stands behind it, nor on the result
+pub still-refused : (cs ds : List Check) (x y n i : ℕ) → answer cs x ≡ refusal n i → answer (cs ++ ds) y ≡ refusal n i
+unfolding answer
+still-refused [] ds x y n i e = let z : _≡_ {A = ℕ} 0 1 = cc in absurd (omega arith)
+still-refused (refuse true m j ∷ cs) ds x y n i e = e
+still-refused (refuse false m j ∷ cs) ds x y n i e = still-refused cs ds x y n i e
+
+pub same-refusal : (cs : List Check) (x y n i : ℕ) → answer cs x ≡ refusal n i → answer cs y ≡ refusal n i
+unfolding answer
+same-refusal [] x y n i e = let z : _≡_ {A = ℕ} 0 1 = cc in absurd (omega arith)
+same-refusal (refuse true m j ∷ cs) x y n i e = e
+same-refusal (refuse false m j ∷ cs) x y n i e = same-refusal cs x y n i e
+
+-- a last check whose condition does not hold
+pub last-passed : (cs : List Check) (b : Bool) (n i x : ℕ) → b ≡ false → answer (cs ++ (refuse b n i ∷ [])) x ≡ answer cs x
+unfolding answer
+last-passed [] b n i x e = rw e refl
+last-passed (refuse true m j ∷ cs) b n i x e = refl
+last-passed (refuse false m j ∷ cs) b n i x e = last-passed cs b n i x e
+
+-- ---- numbers
+
+-- the number of a refusal is one of the checks'
+listed : (cs : List Check) (x n i : ℕ) → answer cs x ≡ refusal n i → T (among n (numbers cs))
+unfolding among answer numbers
+listed [] x n i e = let z : _≡_ {A = ℕ} 0 1 = cc in absurd (omega arith)
+listed (refuse true m j ∷ cs) x n i e = let z : n ≡ m = cc in rw (eq-eqb n m z) tt
+listed (refuse false m j ∷ cs) x n i e = right (eqb n m) (among n (numbers cs)) (listed cs x n i e)
+  where
+    right : (a b : Bool) → T b → T (a || b)
+    right true b t = tt
+    right false b t = t
+
+pub no-other : (cs : List Check) (x : ℕ) → RefusesBy (numbers cs) (answer cs x)
+no-other cs x = record { listed = listed cs x }
+
+-- each number of a list is among others
+abbrev pub Within : List ℕ → List ℕ → Type 0
+Within [] ms = Unit {0}
+Within (m ∷ ns) ms = T (among m ms) × Within ns ms
+
+-- so a number that is among the list is among the others
+pub within : (n : ℕ) (ns ms : List ℕ) → Within ns ms → T (among n ns) → T (among n ms)
+unfolding among
+within n [] ms w h = absurd h
+within n (m ∷ ns) ms w h = go (eqb n m) refl h (within n ns ms (w .1))
+  where
+    go : (b : Bool) → eqb n m ≡ b → T (b || among n ns) → (T (among n ns) → T (among n ms)) → T (among n ms)
+    go true e t r = rw (eqb-true n m e) (w .0)
+    go false e t r = r t
+
+-- ---- the first that holds
+
+-- just when: no earlier condition holds, and this one does
+pub refused : (cs ds : List Check) (b : Bool) (x n i k : ℕ) → among n (numbers cs) ≡ false → among n (numbers ds) ≡ false
+    → (answer (cs ++ (refuse b n i ∷ ds)) x ≡ refusal n k) ↔ (None cs × (b ≡ true) × (k ≡ i))
+unfolding among answer numbers
+refused [] ds true x n i k f g = (λ e. (tt, refl, cc), λ h. ap (refusal n) (sym (h .2)))
+refused [] ds false x n i k f g = (λ e. absurd (subst T g (listed ds x n k e)), λ h. absurd (subst T (sym (h .1)) tt))
+refused (refuse true m j ∷ cs) ds b x n i k f g = (
+  λ e. let z : n ≡ m = cc in absurd (subst T (left (eqb n m) (among n (numbers cs)) f) (rw (eq-eqb n m z) tt)),
+  λ h. absurd (subst T (h .0 .0) tt),
+)
+  where
+    left : (a b : Bool) → (a || b) ≡ false → a ≡ false
+    left true b e = e
+    left false b e = refl
+refused (refuse false m j ∷ cs) ds b x n i k f g =
+    let r = refused cs ds b x n i k (rest (eqb n m) (among n (numbers cs)) f) g in
+    (λ e. let p = r .0 e in ((refl, p .0), p .1, p .2), λ h. r .1 (h .0 .1, h .1, h .2))
+  where
+    rest : (a b : Bool) → (a || b) ≡ false → b ≡ false
+    rest true b e = absurd (subst T e tt)
+    rest false b e = e
+
+-- ---- what an answer leaves
+
+pub refused-leaves : (a : Answer) (old new : List ℕ) (n i : ℕ) → a ≡ refusal n i → after a old new ≡ old
+refused-leaves a old new n i e = ap (λ (x : Answer). after x old new) e
+
+pub taken-leaves : (a : Answer) (old new : List ℕ) (v : ℕ) → a ≡ result v → after a old new ≡ new
+taken-leaves a old new v e = ap (λ (x : Answer). after x old new) e
+
+-- an output: the new bytes at its start
+pub output-leaves : (a : Answer) (out new r : List ℕ) (v : ℕ) → a ≡ result v → new ≡ r
+    → after a out (atStart new out) ≡ r ++ drop (length r) out
+unfolding atStart
+output-leaves a out new r v e f = taken-leaves a out (atStart new out) v e ∙ ap (λ (x : List ℕ). x ++ drop (length x) out) f
+
+-- an answer and its buffer together
+module _ (a : Answer) (old new : List ℕ) where
+  pub both-refused : (n i : ℕ) → a ≡ refusal n i → (refusal n i ≡ a) × (old ≡ after a old new)
+  both-refused n i e = (sym e, sym (refused-leaves a old new n i e))
+
+  pub both-done : (x : ℕ) (now : List ℕ) → a ≡ result x → now ≡ new → (result x ≡ a) × (now ≡ after a old new)
+  both-done x now e s = (sym e, s ∙ sym (taken-leaves a old new x e))
+
+-- ---- the layout
+
+-- no result and no index reaches the number's bits
+pub taken-apart : (cs : List Check) (x : ℕ) → Small cs → (None cs → x < 2 ^ 56) → Faithful (answer cs x)
+unfolding answer
+taken-apart [] x s h = let small = h tt in record { number = omega arith; value = omega arith }
+taken-apart (refuse true m j ∷ cs) x s h = let small = s .0 in record { number = omega arith; value = omega arith }
+taken-apart (refuse false m j ∷ cs) x s h = taken-apart cs x (s .1) (λ n. h (refl, n))

@@ -1,0 +1,4 @@
+-- Laws of checks in their order.
+pub mod Tells
+pub mod Chains
+pub mod Claims

@@ -1,0 +1,72 @@
+-- The capacity of a first-round page: it is the number of its data cells after the fill, is answered, lies from 660 to 1,012 bits with both
+-- ends met, and so 82 bytes always fit. They are demand 3's parts on capacity.
+-- Assumes nothing.
+use mathlib.Core.Bool.{Bool}
+use mathlib.Core.List.{List, [], _∷_}
+use mathlib.Core.Path.{_≡_, refl, sym, ap, ap₂, _∙_}
+use Prim.Native.Nat.{ℕ, zero, suc, _+_, _*_, _≤_}
+use native.Mathlib.Nat.{suc-mul}
+use native.Mathlib.Omega.{arith}
+use lib.ListN.{length, replicate}
+use Rattle.cells.specs.Bytes.{Bytes}
+use Rattle.answer.specs.Answer.{result}
+use Rattle.window.specs.Words.{pageWords}
+use Rattle.word.specs.Word.{sparse, legal}
+use Rattle.word.specs.Fill.{capacity}
+use Rattle.word.specs.Claims.{Legal}
+use Rattle.word.proofs.Claims.{capacity-bounds}
+use Rattle.rows.specs.Page.{page256, fillAll, capacityAll}
+use Rattle.rows.proofs.EachWord.{Each, each-sparse, each-word, each-replicate, row-page, row-replicate}
+use Rattle.rows.proofs.Capacities.{capacity-bounds-all}
+use Rattle.page.specs.Answer.{pageCapacityAnswer}
+use Rattle.page.proofs.FirstAnswers.{check-taken}
+use Rattle.demands.specs.Demands.{FirstRound, Fits, dataCellsAll, dataCells}
+use Rattle.demands.proofs.Laid.{laid, sound256, laid-words, laid-first}
+
+-- of words without neighbours
+capacity-dataCells : (ws : List (List Bool)) → Each sparse ws → capacityAll ws ≡ dataCellsAll (fillAll ws)
+unfolding capacityAll dataCellsAll fillAll
+capacity-dataCells [] h = refl
+capacity-dataCells (w ∷ ws) h = ap₂ (λ (a b : ℕ). a + b) (capacity-bounds .counts w (h .0)) (capacity-dataCells ws (h .1))
+
+pub capacity-is : (P : List ℕ) → FirstRound P → capacityAll (pageWords P 44) ≡ dataCells P
+capacity-is P f = capacity-dataCells (pageWords P 44) (each-sparse (pageWords P 44) (each-word legal P 44 (f .words-legal)))
+
+pub capacity-counts : (P : List ℕ) → FirstRound P → pageCapacityAnswer P ≡ result (dataCells P)
+capacity-counts P f = check-taken page256 P _ (dataCells P) (f .of-bytes) .1 (f, sym (capacity-is P f))
+
+-- ---- from 660 to 1,012
+
+pub bounds : (P : List ℕ) → FirstRound P → (660 ≤ dataCells P) × (dataCells P ≤ 1012)
+bounds P f =
+    let ws = pageWords P 44 in
+    let r = row-page P 44 (omega arith) in
+    omega (arith, r .0, capacity-is P f, capacity-bounds-all ws (r .1) (each-word legal P 44 (f .words-legal)))
+
+-- one word, n times
+pub capacity-replicate : (n : ℕ) (w : List Bool) → capacityAll (replicate n w) ≡ n * capacity w
+unfolding capacityAll
+capacity-replicate zero w = omega arith
+capacity-replicate (suc n) w = omega (arith, capacity-replicate n w, suc-mul n (capacity w))
+
+-- the page of 44 times one word
+all-alike : (w : List Bool) (c : ℕ) → Legal w → capacity w ≡ c → (P : List ℕ) × FirstRound P × (pageCapacityAnswer P ≡ result (44 * c))
+all-alike w c h e =
+    let ws = replicate 44 w in
+    let r = row-replicate 44 w (h .0) in
+    let P = laid 1 0 0 ws [] in
+    let f : FirstRound P = laid-first sound256 ws [] r (each-replicate legal 44 w (h .1)) (λ i. omega arith) refl in
+    let k : capacityAll (pageWords P 44) ≡ 44 * c =
+    ap capacityAll (laid-words sound256 1 0 0 ws r []) ∙ capacity-replicate 44 w ∙ ap (λ (n : ℕ). 44 * n) e in
+    (P, f, capacity-counts P f ∙ ap result (sym (capacity-is P f) ∙ k))
+
+pub least-met : (P : List ℕ) × FirstRound P × (pageCapacityAnswer P ≡ result 660)
+least-met = let m = capacity-bounds .least-met in all-alike (m .0) 15 (m .1) (m .2)
+
+pub greatest-met : (P : List ℕ) × FirstRound P × (pageCapacityAnswer P ≡ result 1012)
+greatest-met = let m = capacity-bounds .greatest-met in all-alike (m .0) 23 (m .1) (m .2)
+
+-- ---- "and so every record of up to 82 bytes fits each first-round page"
+
+pub eighty-two : (P R : List ℕ) → FirstRound P → Bytes R → length R ≤ 82 → Fits R P
+eighty-two P R f b h = record { of-bytes = b; room = omega (arith, bounds P f, capacity-is P f) }

@@ -1,0 +1,1 @@
+// The customer's three demands as theorems about the operations. This crate has statements and proofs, and no code.

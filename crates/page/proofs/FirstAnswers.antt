@@ -1,0 +1,128 @@
+-- Just when write first, read first and page capacity accept, and when they refuse by each number, over any shape of page.
+-- Assumes nothing.
+use mathlib.Core.Bool.{false, not, _||_}
+use mathlib.Core.List.{List, [], _++_}
+use mathlib.Core.Logic.{_↔_, _⊎_, Iff·trans}
+use mathlib.Core.Path.{_≡_, refl, sym, ap, _∙_}
+use Prim.Native.Nat.{ℕ, _≤_, _<_}
+use native.Mathlib.Omega.{arith}
+use lib.Dec.{eqb}
+use lib.ListN.{length}
+use Rattle.cells.specs.Bytes.{Bytes}
+use Rattle.answer.specs.Answer.{result, refusal, Check, answer, numbers, among}
+use Rattle.answer.proofs.Tells.{Tells, unequal, less, either, just, later, taken, nothing-left, flat3}
+use Rattle.word.specs.Word.{legal}
+use Rattle.rows.specs.Page.{Shape, byte1, byte2, blankOf, FirstRoundOf}
+use Rattle.rows.proofs.Blank.{length-blank, not-blank}
+use Rattle.page.specs.Terms.{SizedOf, FirstHeaderOf, AllPassOf, FirstRefusalsOf}
+use Rattle.page.specs.Answer.{writeFirstChecks, firstChecks, readFirstChecks}
+use Rattle.page.proofs.Headed.{headed-1, headed-5, headed-6, headed-later, headed-taken, word-7, word-later, word-taken}
+
+-- ---- write first
+
+module _ (s : Shape) (P D : List ℕ) where
+  -- the page and the data have other lengths than theirs
+  not-sized : Tells (not (eqb (length P) (s .size))) (¬ SizedOf s P) (SizedOf s P)
+  not-sized = unequal (length P) (s .size)
+
+  other-length : Tells (not (eqb (length D) (s .firstBytes))) (¬ (length D ≡ s .firstBytes)) (length D ≡ s .firstBytes)
+  other-length = unequal (length D) (s .firstBytes)
+
+  pub write-first : (v : ℕ) → (answer (writeFirstChecks s P D) 0 ≡ result v) ↔ ((P ≡ blankOf (s .size)) × (length D ≡ s .firstBytes) × (v ≡ 0))
+  unfolding writeFirstChecks
+  write-first v =
+      Iff·trans
+      (taken not-sized 1 0 _ 0 v (taken other-length 2 0 _ 0 v (taken (not-blank P) 4 0 _ 0 v (nothing-left 0 v)))) (
+        λ h. (h .1 .1 .0 ∙ ap blankOf (h .0), h .1 .0, h .1 .1 .1),
+        λ h. let l = ap length (h .0) ∙ length-blank (s .size) in (l, (h .1, (h .0 ∙ ap blankOf (sym l), h .2))),
+      )
+
+  pub write-first-1 : (i : ℕ) → (answer (writeFirstChecks s P D) 0 ≡ refusal 1 i) ↔ (¬ SizedOf s P × (i ≡ 0))
+  unfolding writeFirstChecks numbers among
+  write-first-1 i = just not-sized 1 0 _ 0 refl i
+
+  pub write-first-2 : (i : ℕ) → (answer (writeFirstChecks s P D) 0 ≡ refusal 2 i) ↔ (SizedOf s P × ¬ (length D ≡ s .firstBytes) × (i ≡ 0))
+  unfolding writeFirstChecks numbers among
+  write-first-2 i = Iff·trans (later not-sized 1 0 _ 0 2 i (λ e. omega arith) (just other-length 2 0 _ 0 refl i)) flat3
+
+  pub write-first-4 : (i : ℕ) → (answer (writeFirstChecks s P D) 0 ≡ refusal 4 i)
+      ↔ (SizedOf s P × (length D ≡ s .firstBytes) × ¬ (P ≡ blankOf (s .size)) × (i ≡ 0))
+  unfolding writeFirstChecks numbers among
+  write-first-4 i =
+      Iff·trans
+      (later not-sized 1 0 _ 0 4 i (λ e. omega arith) (later other-length 2 0 _ 0 4 i (λ e. omega arith) (just (not-blank P) 4 0 _ 0 refl i))) (
+        λ h. (h .0, h .1 .0, λ e. h .1 .1 .0 (e ∙ ap blankOf (sym (h .0))), h .1 .1 .1),
+        λ h. (h .0, (h .1, (λ e. h .2 (e ∙ ap blankOf (h .0)), h .3))),
+      )
+
+-- ---- a first-round page, before other checks
+
+module _ (s : Shape) (P : List ℕ) where
+  header : Tells (not (eqb (byte1 P) 0) || not (eqb (byte2 P) 0)) (¬ (byte1 P ≡ 0) ⊎ ¬ (byte2 P ≡ 0)) ((byte1 P ≡ 0) × (byte2 P ≡ 0))
+  header = either (unequal (byte1 P) 0) (unequal (byte2 P) 0)
+
+  -- its length, header and words together
+  first-parts : {X : Type 0} → Bytes P → (FirstHeaderOf s P × (AllPassOf s legal P × X)) ↔ (FirstRoundOf s P × X)
+  first-parts b = (
+    λ h. (
+      record {
+        sized = h .0 .0;
+        of-bytes = b;
+        in-state = h .0 .1;
+        byte1-zero = h .0 .2;
+        byte2-zero = h .0 .3;
+        words-legal = h .1 .0;
+      },
+      h .1 .1,
+    ),
+    λ h. let f = h .0 in ((f .sized, f .in-state, f .byte1-zero, f .byte2-zero), (f .words-legal, h .1)),
+  )
+
+  module _ (cs : List Check) (x : ℕ) where
+    -- the refusals that three operations share
+    pub first-refusals : (among 1 (numbers cs) ≡ false) × (among 5 (numbers cs) ≡ false) × (among 6 (numbers cs) ≡ false) × (among 7 (numbers cs) ≡ false)
+        → FirstRefusalsOf s P (answer (firstChecks s P ++ cs) x)
+    unfolding firstChecks numbers among
+    first-refusals f = record {
+      one = headed-1 s P 1 header _ x (f .0);
+      five = headed-5 s P 1 header _ x (f .1);
+      six = headed-6 s P 1 header _ x (f .2);
+      seven = λ i. headed-later s P 1 header _ x 7 i (omega arith) (word-7 s legal P cs x (f .3) i);
+    }
+
+    -- a later number, and a result
+    pub first-later : {X : Type 0} (n i : ℕ) → Bytes P → ¬ (1 ≡ n) × ¬ (5 ≡ n) × ¬ (6 ≡ n) × ¬ (7 ≡ n) → (answer cs x ≡ refusal n i) ↔ X
+        → (answer (firstChecks s P ++ cs) x ≡ refusal n i) ↔ (FirstRoundOf s P × X)
+    unfolding firstChecks
+    first-later n i b d e =
+        Iff·trans (headed-later s P 1 header _ x n i (d .0, d .1, d .2) (word-later s legal P cs x n i (d .3) e)) (first-parts b)
+
+    pub first-taken : {X : Type 0} (v : ℕ) → Bytes P → (answer cs x ≡ result v) ↔ X
+        → (answer (firstChecks s P ++ cs) x ≡ result v) ↔ (FirstRoundOf s P × X)
+    unfolding firstChecks
+    first-taken v b e = Iff·trans (headed-taken s P 1 header _ x v (word-taken s legal P cs x v e)) (first-parts b)
+
+  -- ---- page capacity, and the check alone
+
+  pub check-refusals : (x : ℕ) → FirstRefusalsOf s P (answer (firstChecks s P) x)
+  unfolding firstChecks numbers among
+  check-refusals x = first-refusals [] x (refl, refl, refl, refl)
+
+  pub check-taken : (x v : ℕ) → Bytes P → (answer (firstChecks s P) x ≡ result v) ↔ (FirstRoundOf s P × (v ≡ x))
+  unfolding firstChecks
+  check-taken x v b = first-taken [] x v b (nothing-left x v)
+
+  -- ---- read first
+
+  module _ (out : List ℕ) where
+    pub read-first : (v : ℕ) → Bytes P → (answer (readFirstChecks s P out) 0 ≡ result v) ↔ (FirstRoundOf s P × (s .firstBytes ≤ length out) × (v ≡ 0))
+    unfolding readFirstChecks
+    read-first v b = Iff·trans (first-taken _ 0 v b (taken (less (length out) (s .firstBytes)) 3 0 _ 0 v (nothing-left 0 v))) flat3
+
+    pub read-first-1567 : FirstRefusalsOf s P (answer (readFirstChecks s P out) 0)
+    unfolding readFirstChecks numbers among
+    read-first-1567 = first-refusals _ 0 (refl, refl, refl, refl)
+
+    pub read-first-3 : (i : ℕ) → Bytes P → (answer (readFirstChecks s P out) 0 ≡ refusal 3 i) ↔ (FirstRoundOf s P × (length out < s .firstBytes) × (i ≡ 0))
+    unfolding readFirstChecks numbers among
+    read-first-3 i b = Iff·trans (first-later _ 0 3 i b (omega arith) (just (less (length out) (s .firstBytes)) 3 0 _ 0 refl i)) flat3

@@ -1,0 +1,114 @@
+-- The checks that both rounds share, before others: of the length, the state and the header, and of the words.
+-- Assumes nothing.
+use mathlib.Core.Bool.{Bool, false, not}
+use mathlib.Core.List.{List, [], _∷_}
+use mathlib.Core.Logic.{_↔_, Iff·trans}
+use mathlib.Core.Path.{_≡_, sym, ap, _∙_, subst}
+use Prim.Native.Nat.{ℕ, _≤_, _<_}
+use native.Mathlib.Omega.{arith}
+use borrow.Author.Tests.{ltb-true, ltb-false}
+use lib.Dec.{T, eqb, ltb}
+use lib.ListN.{length, getD}
+use Rattle.answer.specs.Answer.{result, refusal, Check, refuse, answer, numbers, among}
+use Rattle.answer.proofs.Tells.{Tells, unequal, just, later, taken, flat3, flat4}
+use Rattle.window.specs.Words.{pageWords}
+use Rattle.window.proofs.Words.{length-pageWords, getD-pageWords}
+use Rattle.rows.specs.Page.{Shape, state, lowest}
+use Rattle.rows.proofs.Lowest.{lowest-le, passed-before, failed-there}
+use Rattle.rows.proofs.Scanning.{scan-failed, scan-passed, all-passed}
+use Rattle.page.specs.Terms.{SizedOf, AllPassOf, LowestBadOf}
+use Rattle.page.specs.Answer.{refuseWord}
+
+-- ---- 1, 5 for a state other than k, 6 by a test r, then other checks
+
+module _ (s : Shape) (P : List ℕ) (k : ℕ) {r : Bool} {E F G : Type 0} (u : Tells r E (F × G)) (cs : List Check) (x : ℕ) where
+  not-sized : Tells (not (eqb (length P) (s .size))) (¬ SizedOf s P) (SizedOf s P)
+  not-sized = unequal (length P) (s .size)
+
+  other-state : Tells (not (eqb (state P) k)) (¬ (state P ≡ k)) (state P ≡ k)
+  other-state = unequal (state P) k
+
+  abbrev pub headed : List Check
+  headed = refuse (not (eqb (length P) (s .size))) 1 0 ∷ refuse (not (eqb (state P) k)) 5 0 ∷ refuse r 6 0 ∷ cs
+
+  pub headed-1 : among 1 (numbers cs) ≡ false → (i : ℕ) → (answer headed x ≡ refusal 1 i) ↔ (¬ SizedOf s P × (i ≡ 0))
+  unfolding numbers among
+  headed-1 f i = just not-sized 1 0 _ x f i
+
+  pub headed-5 : among 5 (numbers cs) ≡ false → (i : ℕ) → (answer headed x ≡ refusal 5 i) ↔ (SizedOf s P × ¬ (state P ≡ k) × (i ≡ 0))
+  unfolding numbers among
+  headed-5 f i = Iff·trans (later not-sized 1 0 _ x 5 i (λ e. omega arith) (just other-state 5 0 _ x f i)) flat3
+
+  pub headed-6 : among 6 (numbers cs) ≡ false → (i : ℕ) → (answer headed x ≡ refusal 6 i) ↔ (SizedOf s P × (state P ≡ k) × E × (i ≡ 0))
+  unfolding numbers among
+  headed-6 f i =
+      Iff·trans
+      (later not-sized 1 0 _ x 6 i (λ e. omega arith)
+      (Iff·trans (later other-state 5 0 _ x 6 i (λ e. omega arith) (just u 6 0 _ x f i)) flat3))
+      flat4
+
+  -- a later number, and a result
+  pub headed-later : {X : Type 0} (n i : ℕ) → ¬ (1 ≡ n) × ¬ (5 ≡ n) × ¬ (6 ≡ n) → (answer cs x ≡ refusal n i) ↔ X
+      → (answer headed x ≡ refusal n i) ↔ ((SizedOf s P × (state P ≡ k) × F × G) × X)
+  headed-later n i d e =
+      Iff·trans
+      (later not-sized 1 0 _ x n i (d .0) (later other-state 5 0 _ x n i (d .1) (later u 6 0 _ x n i (d .2) e))) (
+        λ h. ((h .0, h .1 .0, h .1 .1 .0 .0, h .1 .1 .0 .1), h .1 .1 .1),
+        λ h. (h .0 .0, (h .0 .1, ((h .0 .2, h .0 .3), h .1))),
+      )
+
+  pub headed-taken : {X : Type 0} (v : ℕ) → (answer cs x ≡ result v) ↔ X
+      → (answer headed x ≡ result v) ↔ ((SizedOf s P × (state P ≡ k) × F × G) × X)
+  headed-taken v e =
+      Iff·trans
+      (taken not-sized 1 0 _ x v (taken other-state 5 0 _ x v (taken u 6 0 _ x v e))) (
+        λ h. ((h .0, h .1 .0, h .1 .1 .0 .0, h .1 .1 .0 .1), h .1 .1 .1),
+        λ h. (h .0 .0, (h .0 .1, ((h .0 .2, h .0 .3), h .1))),
+      )
+
+-- ---- 7 by a test of the words, then other checks
+
+module _ (s : Shape) (test : List Bool → Bool) (P : List ℕ) where
+  abbrev words : List (List Bool)
+  words = pageWords P (s .words)
+
+  bad-word : Tells (ltb (lowest test words) (length words)) (lowest test words < s .words) (AllPassOf s test P)
+  bad-word =
+      let l = length-pageWords P (s .words) in
+      record {
+        if-holds = λ e. omega (arith, ltb-true (lowest test words) (length words) e);
+        if-not = λ e. all-passed test P (s .words) (omega (arith, ltb-false (lowest test words) (length words) e, lowest-le test words));
+        apart = λ h k. omega (arith, scan-passed test P (s .words) k);
+      }
+
+  -- the lowest index of a word that fails
+  pub lowest-bad : (i : ℕ) → ((lowest test words < s .words) × (i ≡ lowest test words)) ↔ LowestBadOf s test P i
+  lowest-bad i =
+      let n = s .words in
+      let l = length-pageWords P n in (
+        λ h. (
+          omega arith,
+          ap test (sym (getD-pageWords P n i (omega arith)) ∙ ap (λ (k : ℕ). getD words k []) (h .1)) ∙ failed-there test words (omega arith),
+          λ j k. subst (λ (w : List Bool). T (test w)) (getD-pageWords P n j (omega arith)) (passed-before test words j (omega arith)),
+        ),
+        λ h. let e : lowest test words ≡ i = scan-failed test P n i (h .0) (h .2) (h .1) in (omega arith, sym e),
+      )
+
+  module _ (cs : List Check) (x : ℕ) where
+    pub word-7 : among 7 (numbers cs) ≡ false → (i : ℕ) → (answer (refuseWord test words ∷ cs) x ≡ refusal 7 i) ↔ LowestBadOf s test P i
+    word-7 f i = Iff·trans (just bad-word 7 (lowest test words) cs x f i) (lowest-bad i)
+
+    pub word-later : {X : Type 0} (n i : ℕ) → ¬ (7 ≡ n) → (answer cs x ≡ refusal n i) ↔ X
+        → (answer (refuseWord test words ∷ cs) x ≡ refusal n i) ↔ (AllPassOf s test P × X)
+    word-later n i d e = later bad-word 7 (lowest test words) cs x n i d e
+
+    pub word-taken : {X : Type 0} (v : ℕ) → (answer cs x ≡ result v) ↔ X
+        → (answer (refuseWord test words ∷ cs) x ≡ result v) ↔ (AllPassOf s test P × X)
+    word-taken v e = taken bad-word 7 (lowest test words) cs x v e
+
+  -- as the loops over the words ask it, and as they tell it
+  pub all-words : AllPassOf s test P → lowest test words ≡ s .words
+  all-words h = scan-passed test P (s .words) h
+
+  pub no-bad-word : (i : ℕ) → i ≡ lowest test words → s .words ≤ i → AllPassOf s test P
+  no-bad-word i e h = all-passed test P (s .words) (omega (arith, lowest-le test words, length-pageWords P (s .words)))

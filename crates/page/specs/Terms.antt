@@ -1,0 +1,44 @@
+-- What the checks of a page say, in document 01's terms and over a shape of page. demands/specs/Demands.antt says how to read them.
+-- Assumes nothing.
+use mathlib.Core.Bool.{Bool, false}
+use mathlib.Core.List.{List}
+use mathlib.Core.Logic.{_↔_, _⊎_}
+use mathlib.Core.Path.{_≡_}
+use Prim.Native.Nat.{ℕ, _≤_, _<_}
+use lib.Dec.{T}
+use lib.ListN.{length}
+use Rattle.answer.specs.Answer.{Answer, refusal}
+use Rattle.window.specs.Words.{wordAt, pageWords}
+use Rattle.word.specs.Word.{legal}
+use Rattle.rows.specs.Page.{Shape, state, byte1, byte2, readAll}
+
+abbrev pub SizedOf : Shape → List ℕ → Type 0
+SizedOf s P = length P ≡ s .size
+
+-- the length and the first three bytes are those of a first-round page
+abbrev pub FirstHeaderOf : Shape → List ℕ → Type 0
+FirstHeaderOf s P = SizedOf s P × (state P ≡ 1) × (byte1 P ≡ 0) × (byte2 P ≡ 0)
+
+-- ... of a second-round page
+abbrev pub SecondHeaderOf : Shape → List ℕ → Type 0
+SecondHeaderOf s P = SizedOf s P × (state P ≡ 7) × (byte1 P ≤ s .secondBytes) × (byte2 P ≡ 0)
+
+-- every word passes a test
+abbrev pub AllPassOf : Shape → (List Bool → Bool) → List ℕ → Type 0
+AllPassOf s test P = (j : ℕ) → j < s .words → T (test (wordAt P j))
+
+-- word i does not pass a test, and every word before it does
+abbrev pub LowestBadOf : Shape → (List Bool → Bool) → List ℕ → ℕ → Type 0
+LowestBadOf s test P i = (i < s .words) × (test (wordAt P i) ≡ false) × ((j : ℕ) → j < i → T (test (wordAt P j)))
+
+-- what the data cells of a second-round page hold: those that reading back finds
+abbrev pub secondBitsOf : Shape → List ℕ → List Bool
+secondBitsOf s P = readAll (pageWords P (s .words))
+
+-- "1 if the page is not 256 bytes", "5 if the state is not 01, 6 if byte 1 or byte 2 is not 0, 7 with the lowest index (0 to 43) of a word that
+-- is not legal": the refusals that the answers of read first, page capacity and rewrite share. The index is 0 where the document names none
+pub record FirstRefusalsOf (s : Shape) (P : List ℕ) (a : Answer) : Type 0 where
+  pub one : (i : ℕ) → (a ≡ refusal 1 i) ↔ (¬ SizedOf s P × (i ≡ 0))
+  pub five : (i : ℕ) → (a ≡ refusal 5 i) ↔ (SizedOf s P × ¬ (state P ≡ 1) × (i ≡ 0))
+  pub six : (i : ℕ) → (a ≡ refusal 6 i) ↔ (SizedOf s P × (state P ≡ 1) × (¬ (byte1 P ≡ 0) ⊎ ¬ (byte2 P ≡ 0)) × (i ≡ 0))
+  pub seven : (i : ℕ) → (a ≡ refusal 7 i) ↔ (FirstHeaderOf s P × LowestBadOf s legal P i)

@@ -1,0 +1,13 @@
+-- Laws of rows of words, over their number.
+pub mod Lowest
+pub mod Scanning
+pub mod EachWord
+pub mod FirstRecord
+pub mod SecondWords
+pub mod Loaded
+pub mod Measuring
+pub mod Rewriting
+pub mod Records
+pub mod Gathering
+pub mod Blank
+pub mod Capacities

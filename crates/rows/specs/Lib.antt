@@ -1,0 +1,2 @@
+-- The definitions of a page: its words and records.
+pub mod Page

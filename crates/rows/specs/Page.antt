@@ -1,0 +1,130 @@
+-- The page (document 01, the section of that name). A page is its list of bytes. The definitions are over a shape of page, or over the number
+-- n of its words; document 01's page is the shape `page256`.
+-- Assumes nothing.
+use mathlib.Core.Bool.{Bool, cond, _&&_, false}
+use mathlib.Core.List.{List, [], _∷_, _++_}
+use mathlib.Core.Path.{_≡_}
+use Prim.Native.Nat.{ℕ, zero, suc, _+_, _*_, _/_, _≤_, _<_}
+use lib.Dec.{T, eqb}
+use lib.ListN.{length, take, drop, getD, replicate}
+use Rattle.cells.specs.Cells.{number, cells, someSet}
+use Rattle.cells.specs.Bytes.{bits, bytes, Bytes, zeros}
+use Rattle.window.specs.Words.{wordAt, pageWords, putWords}
+use Rattle.word.specs.Word.{sum, legal, zeckendorf}
+use Rattle.word.specs.Fill.{fill, read, capacity, put, wellFormed}
+
+-- ---- the shape
+
+-- a shape of page: its size in bytes, the number of its words, the bytes of its first record and of the longest second one
+pub record Shape : Type 0 where
+  pub size : ℕ
+  pub words : ℕ
+  pub firstBytes : ℕ
+  pub secondBytes : ℕ
+
+-- the shape of a page of so many bytes and words: a word takes four bytes of a first record, and has at most 23 data cells
+abbrev pub shape : ℕ → ℕ → Shape
+shape size n = record { size = size; words = n; firstBytes = 4 * n; secondBytes = 23 * n / 8 }
+
+-- document 01's page
+abbrev pub page256 : Shape
+page256 = record { size = 256; words = 44; firstBytes = 176; secondBytes = 126 }
+
+-- ---- bytes and words
+
+-- byte 0 is the state: 00 blank, 01 first round, 07 second round
+abbrev pub state : List ℕ → ℕ
+state page = getD page 0 0
+
+abbrev pub byte1 : List ℕ → ℕ
+byte1 page = getD page 1 0
+
+abbrev pub byte2 : List ℕ → ℕ
+byte2 page = getD page 2 0
+
+-- a blank page: so many bytes, and all of them 0
+unfoldable pub isBlank : ℕ → List ℕ → Bool
+isBlank size page = eqb (length page) size && zeros page
+
+-- the lowest index of a word that does not pass a test; where all pass, the number of words
+unfoldable pub lowest : (List Bool → Bool) → List (List Bool) → ℕ
+lowest test [] = 0
+lowest test (w ∷ ws) = cond (test w) (suc (lowest test ws)) 0
+
+-- ---- the first record
+
+-- the n words of a first record: each four bytes, highest first, make one word's value
+unfoldable pub firstWords : ℕ → List ℕ → List (List Bool)
+firstWords zero bs = []
+firstWords (suc n) bs = zeckendorf 46 (number (bits (take 4 bs))) ∷ firstWords n (drop 4 bs)
+
+-- the first record of words: each word's value as four bytes, highest first
+unfoldable pub firstRecord : List (List Bool) → List ℕ
+firstRecord [] = []
+firstRecord (w ∷ ws) = bytes 4 (cells 32 (sum w)) ++ firstRecord ws
+
+-- a blank page after a first record was written: state 01 and the record's words
+unfoldable pub firstPage : Shape → List ℕ → List ℕ → List ℕ
+firstPage s page bs = putWords (1 ∷ drop 1 page) (firstWords (s .words) bs)
+
+-- ---- the second record
+
+unfoldable pub fillAll : List (List Bool) → List (List Bool)
+fillAll [] = []
+fillAll (w ∷ ws) = fill w ∷ fillAll ws
+
+-- a page's capacity is the sum over its words
+unfoldable pub capacityAll : List (List Bool) → ℕ
+capacityAll [] = 0
+capacityAll (w ∷ ws) = capacity w + capacityAll ws
+
+-- what the data cells of words hold, word 0 first; each word starts afresh
+unfoldable pub readAll : List (List Bool) → List Bool
+readAll [] = []
+readAll (w ∷ ws) = read w ++ readAll ws
+
+-- bits put into the data cells, word 0 first; where they are used up, 0
+unfoldable pub putAll : List (List Bool) → List Bool → List (List Bool)
+putAll [] l = []
+putAll (w ∷ ws) l = put w l ∷ putAll ws (drop (length (read w)) l)
+
+-- the term "outcome": rewriting fills all words, puts the record's bits (highest bit of each byte first) in the data cells, leaves the
+-- spare data cells 0, and writes byte 1 and state 07
+unfoldable pub outcomeOf : Shape → List ℕ → List ℕ → List ℕ
+outcomeOf s page bs = putWords (7 ∷ length bs ∷ drop 2 page) (putAll (fillAll (pageWords page (s .words))) (bits bs))
+
+-- the record that a second-round page holds: as many bytes as byte 1 says, from the data cells
+unfoldable pub secondRecord : Shape → List ℕ → List ℕ
+secondRecord s page = bytes (byte1 page) (readAll (pageWords page (s .words)))
+
+-- ---- terms of document 01
+
+-- a blank page has only bytes of 0
+unfoldable pub blankOf : ℕ → List ℕ
+blankOf size = replicate size 0
+
+-- the term "first-round page": a page in state 01 whose bytes 1 and 2 are 0 and whose words are all legal
+pub record FirstRoundOf (s : Shape) (page : List ℕ) : Type 0 where
+  pub sized : length page ≡ s .size
+  pub of-bytes : Bytes page
+  pub in-state : state page ≡ 1
+  pub byte1-zero : byte1 page ≡ 0
+  pub byte2-zero : byte2 page ≡ 0
+  pub words-legal : (i : ℕ) → i < s .words → T (legal (wordAt page i))
+
+-- a page that read second accepts, given output enough (document 01 has no term for it): state 07, byte 1 at most the
+-- longest record's, byte 2 at 0, all words well formed, data cells enough for the record, the spare ones 0
+pub record SecondRoundOf (s : Shape) (page : List ℕ) : Type 0 where
+  pub sized : length page ≡ s .size
+  pub of-bytes : Bytes page
+  pub in-state : state page ≡ 7
+  pub byte1-most : byte1 page ≤ s .secondBytes
+  pub byte2-zero : byte2 page ≡ 0
+  pub words-formed : (i : ℕ) → i < s .words → T (wellFormed (wordAt page i))
+  pub cells-enough : 8 * byte1 page ≤ length (readAll (pageWords page (s .words)))
+  pub spare-zero : someSet (drop (8 * byte1 page) (readAll (pageWords page (s .words)))) ≡ false
+
+-- the term "fits": 8 times the record's length in bytes is at most the page's capacity
+pub record FitsOf (s : Shape) (bs page : List ℕ) : Type 0 where
+  pub of-bytes : Bytes bs
+  pub room : 8 * length bs ≤ capacityAll (pageWords page (s .words))

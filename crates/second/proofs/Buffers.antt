@@ -1,0 +1,45 @@
+-- A buffer of zeros that bits were put into, from its first on: its bytes are those of the bits, with 0 after them. Assumes nothing.
+use mathlib.Core.Bool.{Bool, false, not}
+use mathlib.Core.List.{List, [], _∷_, _++_}
+use mathlib.Core.Path.{_≡_, refl, sym, ap, _∙_}
+use Prim.Native.Nat.{ℕ, zero, _+_, _*_, _≤_}
+use native.Mathlib.Omega.{arith}
+use lib.ListN.{length, take, drop, replicate, length-append, length-replicate}
+use Rattle.cells.specs.Cells.{cells, someSet}
+use Rattle.cells.specs.Bytes.{bits, bytes, zeros}
+use Rattle.cells.proofs.Fits.{drop-clear, spare-clear, take-bytes, bytes-front, zeros-bits, zero-bits}
+use Rattle.cells.proofs.Bytes.{drop-bits, Bytes-bytes, Bytes-drop}
+use Rattle.window.specs.Words.{splice, putCells, Words}
+use Rattle.window.proofs.Words.{bits-putCells}
+use Rattle.word.specs.Fill.{read}
+use Rattle.word.proofs.Filling.{capacity-le}
+use Rattle.rows.specs.Page.{readAll}
+
+-- ---- the buffer
+
+-- the cells after those of the bits
+abbrev after-bits : ℕ → List Bool → List Bool
+after-bits m r = drop (0 + length r) (bits (replicate m 0))
+
+-- what is after the record's bytes is 0 exactly where no spare cell is set
+pub buffer-spare : (m k : ℕ) (r : List Bool) → length r ≤ 8 * m → zeros (drop k (putCells (replicate m 0) 0 r)) ≡ not (someSet (drop (8 * k) r))
+buffer-spare m k r h =
+    let b = putCells (replicate m 0) 0 r in
+    let e : bits b ≡ r ++ after-bits m r = bits-putCells (replicate m 0) 0 r (let k : length (replicate m 0) ≡ m = length-replicate m zero in omega arith) ∙ unfold splice in refl in
+    zeros-bits (drop k b) (Bytes-drop k b (Bytes-bytes (length (replicate m 0)) _))
+    ∙ ap not
+    (ap someSet (sym (drop-bits k b) ∙ ap (drop (8 * k)) e)
+    ∙ spare-clear (8 * k) r (after-bits m r) (drop-clear (0 + length r) (bits (replicate m 0)) (zero-bits m)))
+
+-- the record's bytes
+pub buffer-record : (m k : ℕ) (r : List Bool) → 8 * k ≤ length r → k ≤ m → take k (putCells (replicate m 0) 0 r) ≡ bytes k r
+unfolding splice
+buffer-record m k r h l =
+    ap (λ (n : ℕ). take k (bytes n (r ++ after-bits m r))) (length-replicate m 0)
+    ∙ take-bytes k m (r ++ after-bits m r) l ∙ bytes-front k r (after-bits m r) h
+
+-- words of 46 cells have at most 23 data cells each
+pub read-most : (ws : List (List Bool)) → Words ws → length (readAll ws) ≤ 23 * length ws
+unfolding readAll read
+read-most [] h = omega arith
+read-most (w ∷ ws) h = omega (arith, length-append (read w) (readAll ws), capacity-le false w, h .0, read-most ws (h .1))

@@ -1,0 +1,77 @@
+-- What rewrite and read second answer and what they leave in their buffers (document 01, "What each operation returns and refuses"), and
+-- the paper's number and values for each case of their enums. The checks are over a shape of page.
+-- Assumes nothing.
+use mathlib.Core.Bool.{not, _||_}
+use mathlib.Core.List.{List, [], _∷_, _++_}
+use Prim.Native.Nat.{ℕ, _*_}
+use lib.Dec.{eqb, ltb}
+use lib.ListN.{length, drop}
+use Rattle.cells.specs.Cells.{someSet}
+use Rattle.cells.specs.Bytes.{atStart}
+use Rattle.answer.specs.Answer.{Answer, result, refusal, Check, refuse, answer, after}
+use Rattle.window.specs.Words.{pageWords}
+use Rattle.word.specs.Fill.{wellFormed}
+use Rattle.rows.specs.Page.{Shape, page256, state, byte1, byte2, capacityAll, outcomeOf, secondRecord}
+use Rattle.page.specs.Terms.{secondBitsOf}
+use Rattle.page.specs.Answer.{refuseWord, firstChecks}
+use Rattle.second.specs.declared.Rewritten.{Rewritten}
+use Rattle.second.specs.declared.Rewritten.the-variants as rewritten
+use Rattle.second.specs.declared.SecondRead.{SecondRead}
+use Rattle.second.specs.declared.SecondRead.the-variants as secondRead
+
+-- ---- rewrite
+
+-- "Refuses 1, 5, 6, 7 as in read first, then 8 with the page's capacity if 8 times the record's length exceeds it."
+unfoldable pub rewriteChecks : Shape → List ℕ → List ℕ → List Check
+rewriteChecks s page bs =
+    firstChecks s page
+    ++ (refuse (ltb (capacityAll (pageWords page (s .words))) (8 * length bs)) 8 (capacityAll (pageWords page (s .words))) ∷ [])
+
+abbrev pub rewriteAnswer : List ℕ → List ℕ → Answer
+rewriteAnswer page bs = answer (rewriteChecks page256 page bs) 0
+
+abbrev pub rewriteLeaves : List ℕ → List ℕ → List ℕ
+rewriteLeaves page bs = after (rewriteAnswer page bs) page (outcomeOf page256 page bs)
+
+-- ---- read second
+
+-- "Refuses 1, then 5 if the state is not 07, 6 if byte 1 exceeds 126 or byte 2 is not 0, 7 with the lowest index of a word not well formed, 9
+-- if 8 times byte 1 exceeds the number of data cells or a spare data cell is 1"
+unfoldable pub secondChecks : Shape → List ℕ → List Check
+secondChecks s page =
+    refuse (not (eqb (length page) (s .size))) 1 0
+    ∷ refuse (not (eqb (state page) 7)) 5 0
+    ∷ refuse (ltb (s .secondBytes) (byte1 page) || not (eqb (byte2 page) 0)) 6 0
+    ∷ refuseWord wellFormed (pageWords page (s .words))
+    ∷ refuse (ltb (length (secondBitsOf s page)) (8 * byte1 page) || someSet (drop (8 * byte1 page) (secondBitsOf s page))) 9 0
+    ∷ []
+
+-- these, then "3 if the output is shorter than the record"
+unfoldable pub readSecondChecks : Shape → List ℕ → List ℕ → List Check
+readSecondChecks s page out = secondChecks s page ++ (refuse (ltb (length out) (byte1 page)) 3 0 ∷ [])
+
+-- "Returns the length and puts the record at the start of the output, the remainder unchanged."
+abbrev pub readSecondAnswer : List ℕ → List ℕ → Answer
+readSecondAnswer page out = answer (readSecondChecks page256 page out) (byte1 page)
+
+abbrev pub readSecondLeaves : List ℕ → List ℕ → List ℕ
+readSecondLeaves page out = after (readSecondAnswer page out) out (atStart (secondRecord page256 page) out)
+
+-- ---- the paper's number and values for each case of an enum
+
+abbrev pub rewrittenCode : Rewritten → Answer
+rewrittenCode rewritten.Done = result 0
+rewrittenCode rewritten.PageLength = refusal 1 0
+rewrittenCode rewritten.State = refusal 5 0
+rewrittenCode rewritten.Header = refusal 6 0
+rewrittenCode (rewritten.Word i) = refusal 7 i
+rewrittenCode (rewritten.RecordLength capacity) = refusal 8 capacity
+
+abbrev pub secondReadCode : SecondRead → Answer
+secondReadCode (secondRead.Length n) = result n
+secondReadCode secondRead.PageLength = refusal 1 0
+secondReadCode secondRead.State = refusal 5 0
+secondReadCode secondRead.Header = refusal 6 0
+secondReadCode (secondRead.Word i) = refusal 7 i
+secondReadCode secondRead.DataCells = refusal 9 0
+secondReadCode secondRead.OutputLength = refusal 3 0

@@ -1,0 +1,2 @@
+-- What the operations on a second record answer and leave.
+pub mod Answer

@@ -1,0 +1,2 @@
+-- The definitions of the words of a page.
+pub mod Words

@@ -1,0 +1,101 @@
+-- Each operation's packed answer gives its two parts back: every result and every index is below 2 ^ 56.
+-- Assumes nothing.
+use mathlib.Core.Bool.{Bool, false}
+use mathlib.Core.List.{List, [], _∷_, _++_}
+use Prim.Native.Nat.{ℕ, zero, suc, _*_, _^_, _≤_, _<_}
+use native.Mathlib.Nat.{min-le-left}
+use native.Mathlib.Omega.{arith}
+use lib.Dec.{ltb}
+use lib.ListN.{length, take, drop, length-take}
+use Rattle.cells.specs.Cells.{cells}
+use Rattle.cells.specs.Bytes.{bits}
+use Rattle.cells.proofs.Numbers.{length-cells}
+use Rattle.answer.specs.Answer.{Check, refuse, answer, None}
+use Rattle.answer.specs.Layout.{Faithful, Small}
+use Rattle.answer.proofs.Chains.{taken-apart}
+use Rattle.answer.proofs.Tells.{less, unequal, either}
+use Rattle.window.specs.Words.{pieces, pageWords}
+use Rattle.window.proofs.Words.{length-pageWords}
+use Rattle.word.specs.Fill.{wellFormed, fill, read, capacity}
+use Rattle.word.specs.Word.{legal}
+use Rattle.word.specs.Answer.{legalChecks, ifLegal}
+use Rattle.word.proofs.Sums.{sum-fits, word-lt}
+use Rattle.word.proofs.Filling.{capacity-le, length-fill}
+use Rattle.word.proofs.FreeCells.{fill-lt}
+use Rattle.rows.specs.Page.{page256, byte1, byte2, lowest, capacityAll}
+use Rattle.rows.proofs.Lowest.{lowest-le}
+use Rattle.page.specs.Answer.{writeFirstChecks, firstChecks, readFirstChecks}
+use Rattle.second.specs.Answer.{rewriteChecks, secondChecks, readSecondChecks}
+use Rattle.wom.specs.Claims.{WordAnswersFaithful, PageAnswersFaithful}
+
+-- ---- words
+
+over-word : (w x : ℕ) → x < 2 ^ 56 → Faithful (ifLegal w x)
+unfolding legalChecks
+over-word w x h = taken-apart (legalChecks w) x (omega arith, (omega arith, (omega arith, tt))) (λ n. h)
+
+capacity-small : (w : ℕ) → capacity (cells 46 w) < 2 ^ 56
+unfolding capacity read fill
+capacity-small w =
+    omega (arith, capacity-le false (fill (cells 46 w)), length-fill false (cells 46 w), length-cells 46 w)
+
+pub word-answers-faithful : WordAnswersFaithful
+unfolding answer
+word-answers-faithful = record {
+  encode = λ value. taken-apart [] _ tt (λ n. omega (arith, word-lt value));
+  decode = λ word. over-word word _ (omega (arith, sum-fits word));
+  fill = λ word. over-word word _ (omega (arith, fill-lt word));
+  capacity = λ word. over-word word _ (capacity-small word);
+}
+
+-- ---- pages
+
+capacities-small : (n : ℕ) (l : List Bool) → capacityAll (pieces n l) ≤ 23 * n
+unfolding capacityAll pieces capacity read fill
+capacities-small zero l = omega arith
+capacities-small (suc n) l =
+    let m : length (take 46 l) ≤ 46 = omega (arith, length-take 46 l, min-le-left 46 (length l)) in
+    omega (arith, m, capacity-le false (fill (take 46 l)), length-fill false (take 46 l), capacities-small n (drop 46 l))
+
+page-small : (P : List ℕ) → capacityAll (pageWords P 44) < 2 ^ 56
+unfolding pageWords
+page-small P = omega (arith, capacities-small 44 (drop 24 (bits P)))
+
+word-small : (test : List Bool → Bool) (P : List ℕ) → lowest test (pageWords P 44) < 2 ^ 56
+word-small test P = omega (arith, lowest-le test (pageWords P 44), length-pageWords P 44)
+
+first-small : (P : List ℕ) (cs : List Check) → Small cs → Small (firstChecks page256 P ++ cs)
+unfolding firstChecks
+first-small P cs h = (omega arith, (omega arith, (omega arith, (word-small legal P, h))))
+
+second-small : (P : List ℕ) (cs : List Check) → Small cs → Small (secondChecks page256 P ++ cs)
+unfolding secondChecks
+second-small P cs h = (omega arith, (omega arith, (omega arith, (word-small wellFormed P, (omega arith, h)))))
+
+-- read second's result: byte 1 is at most 126 where no check refuses
+length-small : (P : List ℕ) (cs : List Check) → None (secondChecks page256 P ++ cs) → byte1 P < 2 ^ 56
+unfolding secondChecks
+length-small P cs h =
+    let k = either (less 126 (byte1 P)) (unequal (byte2 P) 0) .if-not (h .1 .1 .0) in
+    omega (arith, k .0)
+
+-- with one check more
+first-one : (P : List ℕ) (b : Bool) (n i : ℕ) → i < 2 ^ 56 → Small (firstChecks page256 P ++ (refuse b n i ∷ []))
+first-one P b n i h = first-small P (refuse b n i ∷ []) (h, tt)
+
+second-one : (P : List ℕ) (b : Bool) (n i : ℕ) → i < 2 ^ 56 → Small (secondChecks page256 P ++ (refuse b n i ∷ []))
+second-one P b n i h = second-small P (refuse b n i ∷ []) (h, tt)
+
+pub page-answers-faithful : PageAnswersFaithful
+unfolding writeFirstChecks firstChecks readFirstChecks rewriteChecks secondChecks readSecondChecks
+page-answers-faithful = record {
+  write-first = λ P D. taken-apart (writeFirstChecks page256 P D) 0 (omega arith, (omega arith, (omega arith, tt))) (λ n. omega arith);
+  read-first = λ P out. taken-apart (readFirstChecks page256 P out) 0 (first-one P (ltb (length out) 176) 3 0 (omega arith)) (λ n. omega arith);
+  page-capacity = λ P. taken-apart (firstChecks page256 P) _ (first-small P [] tt) (λ n. page-small P);
+  rewrite = λ P R.
+      let room = capacityAll (pageWords P 44) in
+      taken-apart (rewriteChecks page256 P R) 0 (first-one P (ltb room (8 * length R)) 8 room (page-small P)) (λ n. omega arith);
+  read-second = λ P out.
+      taken-apart (readSecondChecks page256 P out) (byte1 P) (second-one P (ltb (length out) (byte1 P)) 3 0 (omega arith))
+      (length-small P (refuse (ltb (length out) (byte1 P)) 3 0 ∷ []));
+}

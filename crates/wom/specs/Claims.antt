@@ -1,0 +1,23 @@
+-- Every answer of every entry can be taken apart: no result and no index runs into the refusal's number. proofs/Claims.antt proves it.
+-- Assumes nothing.
+use mathlib.Core.List.{List}
+use Prim.Native.Nat.{ℕ}
+use Rattle.answer.specs.Layout.{Faithful}
+use Rattle.word.specs.Answer.{encodeAnswer, decodeAnswer, fillAnswer, capacityAnswer}
+use Rattle.page.specs.Answer.{writeFirstAnswer, readFirstAnswer, pageCapacityAnswer}
+use Rattle.second.specs.Answer.{rewriteAnswer, readSecondAnswer}
+
+-- for every argument of each word operation
+pub record WordAnswersFaithful : Type 0 where
+  pub encode : (value : ℕ) → Faithful (encodeAnswer value)
+  pub decode : (word : ℕ) → Faithful (decodeAnswer word)
+  pub fill : (word : ℕ) → Faithful (fillAnswer word)
+  pub capacity : (word : ℕ) → Faithful (capacityAnswer word)
+
+-- and for every page, record and output
+pub record PageAnswersFaithful : Type 0 where
+  pub write-first : (P D : List ℕ) → Faithful (writeFirstAnswer P D)
+  pub read-first : (P out : List ℕ) → Faithful (readFirstAnswer P out)
+  pub page-capacity : (P : List ℕ) → Faithful (pageCapacityAnswer P)
+  pub rewrite : (P R : List ℕ) → Faithful (rewriteAnswer P R)
+  pub read-second : (P out : List ℕ) → Faithful (readSecondAnswer P out)
