@@ -1,41 +1,30 @@
 /*
- * testing.h - what the test programs share: the count of checks, the plants,
- * random bits
+ * testing.h - checks, counted and reported
+ *
+ * Each check is of a kind. A program is started without arguments, or with
+ * `plant KIND`: then the first check of that kind has a wrong expectation, so
+ * that the check is seen to fail.
  */
 #ifndef TESTING_H
 #define TESTING_H
 
+#include <stddef.h>
 #include <stdint.h>
 
-#define MISMATCHES_SHOWN 10
+/* Other arguments end the program with 2 and the usage. */
+void take_arguments(const char *usage, int argc, char **argv);
 
-/* Counts one check; true when it is wrong and should be shown. */
-int count_check(int right);
+/* What the following checks are of, for their reports. */
+void in_case(const char *name, uint64_t number);
 
-/* ---- Plants ------------------------------------------------------------ */
+void check_number(const char *kind, uint64_t came, uint64_t expected);
 
-/* A program is started as NAME, or as NAME plant KIND: then the first check of
- * that kind is given a wrong expectation, so that it is seen to fail. */
-
-/* True when started with a plant. Other arguments end the program with 2. */
-int take_arguments(const char *program, int argc, char **argv);
-
-/* 1 the first time that the planted kind is asked for, else 0. */
-int plant_here(const char *kind);
+/* Of at least one byte; a plant changes the last one that is expected. */
+void check_bytes(const char *kind, const uint8_t *came, uint8_t *expected,
+                 size_t length);
 
 /* Prints the counts. The exit status: 0 when no check was wrong, 1 when one
- * was, 2 when the planted kind was never asked for. */
+ * was, 2 when there was no check of the planted kind. */
 int finish(const char *program);
-
-/* ---- Random bits ------------------------------------------------------- */
-
-/* Starts the random bits anew: the same seed gives the same bits. */
-void seed_random_bits(uint64_t seed);
-
-/* 64 pseudo-random bits. */
-uint64_t random_bits(void);
-
-/* Pseudo-random, 0 to limit - 1. */
-unsigned random_below(unsigned limit);
 
 #endif /* TESTING_H */

@@ -1,0 +1,488 @@
+/*
+ * Test of wom.h: its constants and functions, and each of the nine entries on
+ * document 01's values and on calls that it refuses by each of its numbers.
+ * Every expectation is a literal.
+ *
+ *     header               all checks; exit status 0 when none is wrong, else 1
+ *     header plant KIND    the same with one wrong expectation of that kind, so
+ *                          that the test is seen to fail: exit status 1
+ *
+ * Kinds: constant       a constant of the header
+ *        parts          an answer, taken apart
+ *        word           what a word entry answers for a value or its word
+ *        word-refusal   a refusal by a word entry
+ *        answer         the answer of a page entry
+ *        page           the page that it leaves
+ *        other          the data, record or output that it leaves
+ *        refusal        a refusal by a page entry
+ *        page-kept      the page of a refused call
+ *        other-kept     the data, record or output of a refused call
+ */
+#include <string.h>
+
+#include "testing.h"
+#include "wom.h"
+
+#define COUNT(table) (sizeof(table) / sizeof(table)[0])
+
+/* An answer, put together. */
+#define REFUSED(number, index) ((uint64_t)(number) << 56 | (index))
+
+/* ---- The header's constants and functions ------------------------------ */
+
+#define CONSTANT(name, value) {#name, name, value}
+
+static const struct {
+    const char *name;
+    uint64_t came;
+    uint64_t expected;
+} constants[] = {
+    CONSTANT(WOM_PAGE_LENGTH, 1),
+    CONSTANT(WOM_DATA_LENGTH, 2),
+    CONSTANT(WOM_OUTPUT_LENGTH, 3),
+    CONSTANT(WOM_NOT_BLANK, 4),
+    CONSTANT(WOM_STATE, 5),
+    CONSTANT(WOM_HEADER, 6),
+    CONSTANT(WOM_WORD, 7),
+    CONSTANT(WOM_RECORD_LENGTH, 8),
+    CONSTANT(WOM_DATA_CELLS, 9),
+    CONSTANT(WOM_HIGH_BIT, 10),
+    CONSTANT(WOM_NEIGHBOURS, 11),
+    CONSTANT(WOM_SUM, 12),
+    CONSTANT(WOM_PAGE_BYTES, 256),
+    CONSTANT(WOM_FIRST_BYTES, 176),
+    CONSTANT(WOM_SECOND_BYTES_MAX, 126),
+    CONSTANT(WOM_SECOND_BYTES_SURE, 82),
+};
+
+static void check_constants(void)
+{
+    size_t i;
+
+    for (i = 0; i < COUNT(constants); i++) {
+        in_case(constants[i].name, constants[i].expected);
+        check_number("constant", constants[i].came, constants[i].expected);
+    }
+}
+
+static const struct {
+    uint64_t answer;
+    unsigned refusal;
+    uint64_t low; /* the result or the index */
+} answers[] = {
+    {0, 0, 0},
+    {4294967295u, 0, 4294967295u},
+    {UINT64_C(0x00ffffffffffffff), 0, UINT64_C(0x00ffffffffffffff)},
+    {UINT64_C(0x0100000000000000), 1, 0},
+    {UINT64_C(0x070000000000002b), 7, 43},
+    {UINT64_C(0x08000000000003f4), 8, 1012},
+    {UINT64_C(0x0c00000000000000), 12, 0},
+    {UINT64_C(0x8000000000000000), 128, 0},
+    {UINT64_MAX, 255, UINT64_C(0x00ffffffffffffff)},
+};
+
+static void check_parts(void)
+{
+    size_t i;
+
+    for (i = 0; i < COUNT(answers); i++) {
+        in_case("answer", answers[i].answer);
+        check_number("parts", wom_refusal(answers[i].answer),
+                     answers[i].refusal);
+        check_number("parts", wom_result(answers[i].answer), answers[i].low);
+        check_number("parts", wom_index(answers[i].answer), answers[i].low);
+    }
+}
+
+/* ---- Words ------------------------------------------------------------- */
+
+#define END (-1)
+
+#define EVEN_TO_34 0, 2, 4, 6, 8, 10, 12, 14, 16, 18, 20, 22, 24, 26, 28, 30, \
+                   32, 34
+#define EVEN_TO_40 EVEN_TO_34, 36, 38, 40
+#define EVERY_ODD 1, 3, 5, 7, 9, 11, 13, 15, 17, 19, 21, 23, 25, 27, 29, 31, \
+                  33, 35, 37, 39, 41, 43, 45
+#define EVERY_THIRD 0, 3, 6, 9, 12, 15, 18, 21, 24, 27, 30, 33, 36, 39, 42, 45
+
+/* A value, the set cells of its word and of its filled word, its capacity */
+static const struct value {
+    uint32_t value;
+    int cells[24];
+    int filled[24];
+    unsigned capacity;
+} values[] = {
+    {0, {END}, {EVEN_TO_40, 42, 44, END}, 23},
+    {1, {45, END}, {EVEN_TO_40, 42, 45, END}, 22},
+    {2, {44, END}, {EVEN_TO_40, 42, 44, END}, 23},
+    {3, {43, END}, {EVEN_TO_40, 43, 45, END}, 22},
+    {77, {37, 39, 45, END}, {EVEN_TO_34, 37, 39, 41, 43, 45, END}, 22},
+    {243, {34, 41, 44, END}, {EVEN_TO_34, 36, 38, 41, 44, END}, 22},
+    {2971215072u, {EVERY_ODD, END}, {EVERY_ODD, END}, 22},
+    {2971215073u, {0, END}, {EVEN_TO_40, 42, 44, END}, 23},
+    {2971215074u, {0, 45, END}, {EVEN_TO_40, 42, 45, END}, 22},
+    {3889371024u, {EVERY_THIRD, END}, {EVERY_THIRD, END}, 15},
+    {4294967295u,
+     {0, 2, 6, 11, 13, 15, 19, 21, 25, 33, 37, 40, 43, END},
+     {0, 2, 4, 6, 8, 11, 13, 15, 17, 19, 21, 23, 25, 27, 29, 31, 33, 35, 37, 40,
+      43, 45, END},
+     21},
+};
+
+/* The word with these cells set: cell 45 is the bit worth 1. */
+static uint64_t word_of(const int *cells)
+{
+    uint64_t word = 0;
+
+    for (; *cells != END; cells++)
+        word |= UINT64_C(1) << (45 - *cells);
+    return word;
+}
+
+static void check_values(void)
+{
+    size_t i;
+
+    for (i = 0; i < COUNT(values); i++) {
+        const struct value *row = &values[i];
+        uint64_t word = word_of(row->cells);
+
+        in_case("value", row->value);
+        check_number("word", wom_encode_word(row->value), word);
+        check_number("word", wom_decode_word(word), row->value);
+        check_number("word", wom_fill_word(word), word_of(row->filled));
+        check_number("word", wom_word_capacity(word), row->capacity);
+    }
+}
+
+static const struct {
+    uint64_t word;
+    unsigned number;
+} refused_words[] = {
+    {UINT64_C(0x0000400000000000), 10}, /* the lowest bit above cell 0 */
+    {UINT64_C(0x8000000000000000), 10},
+    {UINT64_MAX, 10},
+    {UINT64_C(0x0000300000000000), 11}, /* cells 0 and 1 */
+    {UINT64_C(0x0000000000000003), 11}, /* cells 44 and 45 */
+    {UINT64_C(0x00003fffffffffff), 11}, /* every cell */
+    {UINT64_C(0x00002aaaaaaaaaaa), 12}, /* every even cell: 4807526975 */
+    {UINT64_C(0x0000288545101125), 12}, /* 4294967296 */
+};
+
+static void check_refused_words(void)
+{
+    size_t i;
+
+    for (i = 0; i < COUNT(refused_words); i++) {
+        uint64_t word = refused_words[i].word;
+        uint64_t refused = REFUSED(refused_words[i].number, 0);
+
+        in_case("word", word);
+        check_number("word-refusal", wom_decode_word(word), refused);
+        check_number("word-refusal", wom_fill_word(word), refused);
+        check_number("word-refusal", wom_word_capacity(word), refused);
+    }
+}
+
+/* ---- Pages and records ------------------------------------------------- */
+
+/* Four words take 23 bytes of a page, and four values 16 bytes of a first
+ * record. The pages here have the same four words eleven times, but for the
+ * last two bytes, where a record of ones ends. */
+struct page {
+    uint8_t header[3];
+    uint8_t words[23];
+    uint8_t last[2];
+};
+
+#define TIMES_7(b) b, b, b, b, b, b, b
+#define TIMES_16(b) TIMES_7(b), TIMES_7(b), b, b
+#define TIMES_23(b) TIMES_16(b), TIMES_7(b)
+
+static const struct page blank = {{0}, {0}, {0}};
+
+/* 176 zero bytes, and over them: no record, one zero byte, 126 bytes of ones.
+ * Where 23 ones are written to a word, all its 46 cells are set. */
+static const struct page zeros_first = {{0x01, 0, 0}, {0}, {0}};
+static const struct page zeros_none = {
+    {0x07, 0, 0}, {TIMES_23(0xaa)}, {0xaa, 0xaa},
+};
+static const struct page zeros_zero = {
+    {0x07, 1, 0}, {TIMES_23(0xaa)}, {0xaa, 0xaa},
+};
+static const struct page zeros_ones = {
+    {0x07, 126, 0}, {TIMES_23(0xff)}, {0xff, 0xaa},
+};
+
+/* 44 times 3889371024, and over it 82 bytes of ones: four data cells are left.
+ * A separator in cell 45 stands right before the next word's cell 0. */
+static const struct page least_first = {
+    {0x01, 0, 0},
+    {0x92, 0x49, 0x24, 0x92, 0x49, 0x26, 0x49, 0x24, 0x92, 0x49, 0x24, 0x99,
+     0x24, 0x92, 0x49, 0x24, 0x92, 0x64, 0x92, 0x49, 0x24, 0x92, 0x49},
+    {0x92, 0x49},
+};
+static const struct page least_ones = {
+    {0x07, 82, 0},
+    {0xdb, 0x6d, 0xb6, 0xdb, 0x6d, 0xb7, 0x6d, 0xb6, 0xdb, 0x6d, 0xb6, 0xdd,
+     0xb6, 0xdb, 0x6d, 0xb6, 0xdb, 0x76, 0xdb, 0x6d, 0xb6, 0xdb, 0x6d},
+    {0xd2, 0x49},
+};
+
+/* 1, 77, 243 and 3889371024, and over them: no record, one zero byte. */
+#define MIXED_FILLED \
+    0xaa, 0xaa, 0xaa, 0xaa, 0xaa, 0xa6, 0xaa, 0xaa, 0xaa, 0xaa, 0x95, 0x5a, \
+    0xaa, 0xaa, 0xaa, 0xaa, 0xa4, 0xa4, 0x92, 0x49, 0x24, 0x92, 0x49
+
+static const struct page mixed_first = {
+    {0x01, 0, 0},
+    {0x00, 0x00, 0x00, 0x00, 0x00, 0x04, 0x00, 0x00, 0x00, 0x00, 0x14, 0x10,
+     0x00, 0x00, 0x00, 0x02, 0x04, 0xa4, 0x92, 0x49, 0x24, 0x92, 0x49},
+    {0x92, 0x49},
+};
+static const struct page mixed_none = {
+    {0x07, 0, 0}, {MIXED_FILLED}, {0x92, 0x49},
+};
+static const struct page mixed_zero = {
+    {0x07, 1, 0}, {MIXED_FILLED}, {0x92, 0x49},
+};
+
+/* Sixteen bytes, which repeat themselves. */
+static const uint8_t zeros[16] = {0};
+static const uint8_t ones[16] = {TIMES_16(0xff)};
+static const uint8_t nines[16] = {TIMES_16(0x99)};
+static const uint8_t least[16] = {
+    0xe7, 0xd3, 0x17, 0x90, 0xe7, 0xd3, 0x17, 0x90,
+    0xe7, 0xd3, 0x17, 0x90, 0xe7, 0xd3, 0x17, 0x90,
+};
+static const uint8_t mixed[16] = {
+    0, 0, 0, 1, 0, 0, 0, 77, 0, 0, 0, 243, 0xe7, 0xd3, 0x17, 0x90,
+};
+
+#define ROOM 512 /* bytes for a page or another buffer, and bytes after it */
+
+static void lay_page(uint8_t bytes[ROOM], const struct page *page)
+{
+    int i;
+
+    memset(bytes, 0x55, ROOM);
+    memcpy(bytes, page->header, 3);
+    for (i = 0; i < 11; i++)
+        memcpy(bytes + 3 + 23 * i, page->words, 23);
+    memcpy(bytes + 254, page->last, 2);
+}
+
+static void lay_record(uint8_t bytes[ROOM], const uint8_t sixteen[16],
+                       size_t length)
+{
+    size_t i;
+
+    for (i = 0; i < length; i++)
+        bytes[i] = sixteen[i % 16];
+}
+
+/* ---- Page entries ------------------------------------------------------ */
+
+enum entry { WRITE_FIRST, READ_FIRST, PAGE_CAPACITY, REWRITE, READ_SECOND };
+
+static const char *const names[] = {
+    "wom_write_first", "wom_read_first", "wom_page_capacity", "wom_rewrite",
+    "wom_read_second",
+};
+
+/* The other buffer is the data, the record or the output; page capacity has
+ * none. A buffer of length 0 is given as null. */
+static uint64_t call(enum entry entry, uint8_t *page, size_t page_length,
+                     uint8_t *other, size_t other_length)
+{
+    page = page_length == 0 ? NULL : page;
+    other = other_length == 0 ? NULL : other;
+    switch (entry) {
+    case WRITE_FIRST:
+        return wom_write_first(page, page_length, other, other_length);
+    case READ_FIRST:
+        return wom_read_first(page, page_length, other, other_length);
+    case PAGE_CAPACITY:
+        return wom_page_capacity(page, page_length);
+    case REWRITE:
+        return wom_rewrite(page, page_length, other, other_length);
+    default:
+        return wom_read_second(page, page_length, other, other_length);
+    }
+}
+
+/* The page and the other buffer with its length; the result, the page
+ * afterwards, and what the other buffer starts with afterwards, in how many
+ * bytes. All else stays. Of a record of no byte and one zero byte over the same
+ * page only byte 1 differs. */
+static const struct accepted {
+    enum entry entry;
+    const struct page *page;
+    const uint8_t *other;
+    size_t length;
+    uint64_t result;
+    const struct page *page_left;
+    const uint8_t *put;
+    size_t put_length;
+} accepted[] = {
+    {WRITE_FIRST, &blank, zeros, 176, 0, &zeros_first, zeros, 0},
+    {WRITE_FIRST, &blank, least, 176, 0, &least_first, zeros, 0},
+    {WRITE_FIRST, &blank, mixed, 176, 0, &mixed_first, zeros, 0},
+
+    {READ_FIRST, &zeros_first, nines, 176, 0, &zeros_first, zeros, 176},
+    {READ_FIRST, &least_first, nines, 177, 0, &least_first, least, 176},
+    {READ_FIRST, &mixed_first, nines, 300, 0, &mixed_first, mixed, 176},
+
+    {PAGE_CAPACITY, &zeros_first, nines, 0, 1012, &zeros_first, zeros, 0},
+    {PAGE_CAPACITY, &least_first, nines, 0, 660, &least_first, zeros, 0},
+    {PAGE_CAPACITY, &mixed_first, nines, 0, 891, &mixed_first, zeros, 0},
+
+    {REWRITE, &zeros_first, zeros, 0, 0, &zeros_none, zeros, 0},
+    {REWRITE, &zeros_first, zeros, 1, 0, &zeros_zero, zeros, 0},
+    {REWRITE, &zeros_first, ones, 126, 0, &zeros_ones, zeros, 0},
+    {REWRITE, &least_first, ones, 82, 0, &least_ones, zeros, 0},
+    {REWRITE, &mixed_first, zeros, 0, 0, &mixed_none, zeros, 0},
+    {REWRITE, &mixed_first, zeros, 1, 0, &mixed_zero, zeros, 0},
+
+    {READ_SECOND, &zeros_none, nines, 0, 0, &zeros_none, zeros, 0},
+    {READ_SECOND, &zeros_zero, nines, 1, 1, &zeros_zero, zeros, 1},
+    {READ_SECOND, &zeros_ones, nines, 126, 126, &zeros_ones, ones, 126},
+    {READ_SECOND, &least_ones, nines, 300, 82, &least_ones, ones, 82},
+    {READ_SECOND, &mixed_none, nines, 1, 0, &mixed_none, zeros, 0},
+    {READ_SECOND, &mixed_zero, nines, 2, 1, &mixed_zero, zeros, 1},
+};
+
+static void check_accepted_call(const struct accepted *row)
+{
+    uint8_t page[ROOM], page_left[ROOM];
+    uint8_t other[ROOM], other_left[ROOM];
+    uint64_t answer;
+
+    lay_page(page, row->page);
+    lay_page(page_left, row->page_left);
+    lay_record(other, row->other, ROOM);
+    lay_record(other_left, row->other, ROOM);
+    lay_record(other_left, row->put, row->put_length);
+
+    answer = call(row->entry, page, 256, other, row->length);
+    check_number("answer", answer, row->result);
+    check_bytes("page", page, page_left, ROOM);
+    check_bytes("other", other, other_left, ROOM);
+}
+
+static void check_accepted(void)
+{
+    size_t i;
+
+    for (i = 0; i < COUNT(accepted); i++) {
+        in_case(names[accepted[i].entry], i);
+        check_accepted_call(&accepted[i]);
+    }
+}
+
+/* The page with its length, and what one of its bytes is put to before the
+ * call; the other buffer's length; the refusal's number and index. */
+static const struct refused {
+    enum entry entry;
+    const struct page *page;
+    size_t page_length;
+    int byte;
+    uint8_t value;
+    size_t length;
+    unsigned number;
+    uint64_t index;
+} refused[] = {
+    {WRITE_FIRST, &blank, 0, 0, 0x00, 176, 1, 0},
+    {WRITE_FIRST, &blank, 0, 0, 0x00, 0, 1, 0},
+    {WRITE_FIRST, &blank, 255, 0, 0x00, 176, 1, 0},
+    {WRITE_FIRST, &blank, 257, 0, 0x00, 176, 1, 0},
+    {WRITE_FIRST, &blank, 256, 0, 0x00, 0, 2, 0},
+    {WRITE_FIRST, &blank, 256, 0, 0x00, 175, 2, 0},
+    {WRITE_FIRST, &blank, 256, 0, 0x00, 177, 2, 0},
+    {WRITE_FIRST, &blank, 256, 0, 0x80, 176, 4, 0},
+    {WRITE_FIRST, &blank, 256, 255, 0x01, 176, 4, 0},
+
+    {READ_FIRST, &zeros_first, 0, 0, 0x01, 176, 1, 0},
+    {READ_FIRST, &zeros_first, 0, 0, 0x01, 0, 1, 0},
+    {READ_FIRST, &zeros_first, 255, 0, 0x01, 176, 1, 0},
+    {READ_FIRST, &zeros_first, 256, 0, 0x07, 176, 5, 0},
+    {READ_FIRST, &zeros_first, 256, 1, 0x01, 176, 6, 0},
+    {READ_FIRST, &zeros_first, 256, 2, 0x80, 176, 6, 0},
+    {READ_FIRST, &zeros_first, 256, 3, 0xc0, 176, 7, 0}, /* cells 0 and 1 */
+    {READ_FIRST, &zeros_first, 256, 8, 0x03, 176, 7, 1}, /* cells 0 and 1 */
+    {READ_FIRST, &zeros_first, 256, 255, 0x03, 176, 7, 43}, /* 44 and 45 */
+    {READ_FIRST, &zeros_none, 256, 0, 0x01, 176, 7, 0}, /* every even cell */
+    {READ_FIRST, &zeros_first, 256, 0, 0x01, 175, 3, 0},
+    {READ_FIRST, &zeros_first, 256, 0, 0x01, 0, 3, 0},
+
+    {PAGE_CAPACITY, &zeros_first, 0, 0, 0x01, 0, 1, 0},
+    {PAGE_CAPACITY, &zeros_first, 257, 0, 0x01, 0, 1, 0},
+    {PAGE_CAPACITY, &zeros_first, 256, 0, 0x00, 0, 5, 0},
+    {PAGE_CAPACITY, &zeros_first, 256, 1, 0x80, 0, 6, 0},
+    {PAGE_CAPACITY, &zeros_first, 256, 8, 0x03, 0, 7, 1},
+
+    {REWRITE, &zeros_first, 0, 0, 0x01, 1, 1, 0},
+    {REWRITE, &zeros_first, 0, 0, 0x01, 0, 1, 0},
+    {REWRITE, &zeros_first, 255, 0, 0x01, 1, 1, 0},
+    {REWRITE, &zeros_first, 256, 0, 0x02, 1, 5, 0},
+    {REWRITE, &zeros_first, 256, 2, 0x01, 1, 6, 0},
+    {REWRITE, &zeros_first, 256, 255, 0x03, 1, 7, 43},
+    {REWRITE, &zeros_first, 256, 0, 0x01, 127, 8, 1012},
+    {REWRITE, &least_first, 256, 0, 0x01, 83, 8, 660},
+    {REWRITE, &mixed_first, 256, 0, 0x01, 112, 8, 891},
+
+    {READ_SECOND, &zeros_ones, 0, 0, 0x07, 126, 1, 0},
+    {READ_SECOND, &zeros_ones, 0, 0, 0x07, 0, 1, 0},
+    {READ_SECOND, &zeros_ones, 257, 0, 0x07, 126, 1, 0},
+    {READ_SECOND, &zeros_ones, 256, 0, 0x01, 126, 5, 0},
+    {READ_SECOND, &zeros_ones, 256, 1, 127, 127, 6, 0},
+    {READ_SECOND, &zeros_ones, 256, 2, 0x01, 126, 6, 0},
+    {READ_SECOND, &zeros_none, 256, 3, 0x00, 126, 7, 0}, /* room at cell 0 */
+    {READ_SECOND, &zeros_none, 256, 255, 0xa8, 126, 7, 43}, /* at cell 44 */
+    {READ_SECOND, &zeros_none, 256, 255, 0xab, 126, 9, 0}, /* a spare cell */
+    {READ_SECOND, &least_ones, 256, 1, 83, 126, 9, 0}, /* too few data cells */
+    {READ_SECOND, &zeros_ones, 256, 0, 0x07, 125, 3, 0},
+    {READ_SECOND, &zeros_ones, 256, 0, 0x07, 0, 3, 0},
+};
+
+static void check_refused_call(const struct refused *row)
+{
+    uint8_t page[ROOM], page_kept[ROOM];
+    uint8_t other[ROOM], other_kept[ROOM];
+    uint64_t answer;
+
+    lay_page(page, row->page);
+    page[row->byte] = row->value;
+    memcpy(page_kept, page, ROOM);
+    lay_record(other, nines, ROOM);
+    memcpy(other_kept, other, ROOM);
+
+    answer = call(row->entry, page, row->page_length, other, row->length);
+    check_number("refusal", answer, REFUSED(row->number, row->index));
+    check_bytes("page-kept", page, page_kept, ROOM);
+    check_bytes("other-kept", other, other_kept, ROOM);
+}
+
+static void check_refused(void)
+{
+    size_t i;
+
+    for (i = 0; i < COUNT(refused); i++) {
+        in_case(names[refused[i].entry], i);
+        check_refused_call(&refused[i]);
+    }
+}
+
+/* ------------------------------------------------------------------------ */
+
+int main(int argc, char **argv)
+{
+    take_arguments("header [plant KIND]", argc, argv);
+    check_constants();
+    check_parts();
+    check_values();
+    check_refused_words();
+    check_accepted();
+    check_refused();
+    return finish("header");
+}
