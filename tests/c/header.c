@@ -187,12 +187,13 @@ static void check_refused_words(void)
 /* ---- Pages and records ------------------------------------------------- */
 
 /* Four words take 23 bytes of a page, and four values 16 bytes of a first
- * record. The pages here have the same four words eleven times, but for the
- * last two bytes, where a record of ones ends. */
+ * record. The pages here have the same four words eleven times, but for a few
+ * bytes where a record begins or ends: the page's first five, with the header,
+ * and its last two. */
 struct page {
-    uint8_t header[3];
+    uint8_t start[5];
     uint8_t words[23];
-    uint8_t last[2];
+    uint8_t end[2];
 };
 
 #define TIMES_7(b) b, b, b, b, b, b, b
@@ -201,29 +202,33 @@ struct page {
 
 static const struct page blank = {{0}, {0}, {0}};
 
-/* 176 zero bytes, and over them: no record, one zero byte, 126 bytes of ones.
- * Where 23 ones are written to a word, all its 46 cells are set. */
-static const struct page zeros_first = {{0x01, 0, 0}, {0}, {0}};
+/* 176 zero bytes, and over them: no record, one zero byte, the byte 10010110,
+ * 126 bytes of ones. Where 23 ones are written to a word, all its 46 cells are
+ * set. */
+static const struct page zeros_first = {{0x01}, {0}, {0}};
 static const struct page zeros_none = {
-    {0x07, 0, 0}, {TIMES_23(0xaa)}, {0xaa, 0xaa},
+    {0x07, 0, 0, 0xaa, 0xaa}, {TIMES_23(0xaa)}, {0xaa, 0xaa},
 };
 static const struct page zeros_zero = {
-    {0x07, 1, 0}, {TIMES_23(0xaa)}, {0xaa, 0xaa},
+    {0x07, 1, 0, 0xaa, 0xaa}, {TIMES_23(0xaa)}, {0xaa, 0xaa},
+};
+static const struct page zeros_byte = {
+    {0x07, 1, 0, 0xeb, 0xbe}, {TIMES_23(0xaa)}, {0xaa, 0xaa},
 };
 static const struct page zeros_ones = {
-    {0x07, 126, 0}, {TIMES_23(0xff)}, {0xff, 0xaa},
+    {0x07, 126, 0, 0xff, 0xff}, {TIMES_23(0xff)}, {0xff, 0xaa},
 };
 
 /* 44 times 3889371024, and over it 82 bytes of ones: four data cells are left.
  * A separator in cell 45 stands right before the next word's cell 0. */
 static const struct page least_first = {
-    {0x01, 0, 0},
+    {0x01, 0, 0, 0x92, 0x49},
     {0x92, 0x49, 0x24, 0x92, 0x49, 0x26, 0x49, 0x24, 0x92, 0x49, 0x24, 0x99,
      0x24, 0x92, 0x49, 0x24, 0x92, 0x64, 0x92, 0x49, 0x24, 0x92, 0x49},
     {0x92, 0x49},
 };
 static const struct page least_ones = {
-    {0x07, 82, 0},
+    {0x07, 82, 0, 0xdb, 0x6d},
     {0xdb, 0x6d, 0xb6, 0xdb, 0x6d, 0xb7, 0x6d, 0xb6, 0xdb, 0x6d, 0xb6, 0xdd,
      0xb6, 0xdb, 0x6d, 0xb6, 0xdb, 0x76, 0xdb, 0x6d, 0xb6, 0xdb, 0x6d},
     {0xd2, 0x49},
@@ -235,21 +240,22 @@ static const struct page least_ones = {
     0xaa, 0xaa, 0xaa, 0xaa, 0xa4, 0xa4, 0x92, 0x49, 0x24, 0x92, 0x49
 
 static const struct page mixed_first = {
-    {0x01, 0, 0},
+    {0x01, 0, 0, 0x00, 0x00},
     {0x00, 0x00, 0x00, 0x00, 0x00, 0x04, 0x00, 0x00, 0x00, 0x00, 0x14, 0x10,
      0x00, 0x00, 0x00, 0x02, 0x04, 0xa4, 0x92, 0x49, 0x24, 0x92, 0x49},
     {0x92, 0x49},
 };
 static const struct page mixed_none = {
-    {0x07, 0, 0}, {MIXED_FILLED}, {0x92, 0x49},
+    {0x07, 0, 0, 0xaa, 0xaa}, {MIXED_FILLED}, {0x92, 0x49},
 };
 static const struct page mixed_zero = {
-    {0x07, 1, 0}, {MIXED_FILLED}, {0x92, 0x49},
+    {0x07, 1, 0, 0xaa, 0xaa}, {MIXED_FILLED}, {0x92, 0x49},
 };
 
 /* Sixteen bytes, which repeat themselves. */
 static const uint8_t zeros[16] = {0};
 static const uint8_t ones[16] = {TIMES_16(0xff)};
+static const uint8_t byte[16] = {TIMES_16(0x96)};
 static const uint8_t nines[16] = {TIMES_16(0x99)};
 static const uint8_t least[16] = {
     0xe7, 0xd3, 0x17, 0x90, 0xe7, 0xd3, 0x17, 0x90,
@@ -266,10 +272,10 @@ static void lay_page(uint8_t bytes[ROOM], const struct page *page)
     int i;
 
     memset(bytes, 0x55, ROOM);
-    memcpy(bytes, page->header, 3);
     for (i = 0; i < 11; i++)
         memcpy(bytes + 3 + 23 * i, page->words, 23);
-    memcpy(bytes + 254, page->last, 2);
+    memcpy(bytes, page->start, 5);
+    memcpy(bytes + 254, page->end, 2);
 }
 
 static void lay_record(uint8_t bytes[ROOM], const uint8_t sixteen[16],
@@ -339,6 +345,7 @@ static const struct accepted {
 
     {REWRITE, &zeros_first, zeros, 0, 0, &zeros_none, zeros, 0},
     {REWRITE, &zeros_first, zeros, 1, 0, &zeros_zero, zeros, 0},
+    {REWRITE, &zeros_first, byte, 1, 0, &zeros_byte, zeros, 0},
     {REWRITE, &zeros_first, ones, 126, 0, &zeros_ones, zeros, 0},
     {REWRITE, &least_first, ones, 82, 0, &least_ones, zeros, 0},
     {REWRITE, &mixed_first, zeros, 0, 0, &mixed_none, zeros, 0},
@@ -346,6 +353,7 @@ static const struct accepted {
 
     {READ_SECOND, &zeros_none, nines, 0, 0, &zeros_none, zeros, 0},
     {READ_SECOND, &zeros_zero, nines, 1, 1, &zeros_zero, zeros, 1},
+    {READ_SECOND, &zeros_byte, nines, 2, 1, &zeros_byte, byte, 1},
     {READ_SECOND, &zeros_ones, nines, 126, 126, &zeros_ones, ones, 126},
     {READ_SECOND, &least_ones, nines, 300, 82, &least_ones, ones, 82},
     {READ_SECOND, &mixed_none, nines, 1, 0, &mixed_none, zeros, 0},
