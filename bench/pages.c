@@ -2,21 +2,31 @@
  * The page operations on 100 pseudo-random pages, with the longest record that
  * fits. How it is started: passes.h. Before each call the page is copied
  * afresh, for `nothing` as well.
+ *
+ * Kinds: answer    an answer
+ *        page      the page afterwards
+ *        out       the output afterwards
+ *        data      the first record afterwards, which is only read
+ *        record    the second record afterwards, which is only read
+ *        refusal   an answer on a page that is refused
  */
+#include "../tests/c/testing.h"
 #include "passes.h"
 #include "plain.h"
 #include "wom.h"
 
 #define COUNT 100
+#define REFUSED 17
+#define PAGES (COUNT + REFUSED)
 
 typedef uint8_t page_bytes[WOM_PAGE_BYTES];
 
 /* For each page: the first record, the second record and its length, and the
- * page in its three states. */
-static uint8_t data[COUNT][WOM_FIRST_BYTES];
-static uint8_t record[COUNT][WOM_SECOND_BYTES_MAX];
-static size_t record_length[COUNT];
-static page_bytes blank[COUNT], first[COUNT], second[COUNT];
+ * page in its three states. The refused ones are compared only. */
+static uint8_t data[PAGES][WOM_FIRST_BYTES];
+static uint8_t record[PAGES][WOM_SECOND_BYTES_MAX];
+static size_t record_length[PAGES];
+static page_bytes blank[PAGES], first[PAGES], second[PAGES];
 
 /* What a call works on. */
 static page_bytes page;
@@ -79,6 +89,43 @@ static const struct operation operations[] = {
 
 #define OPERATIONS ((int)(sizeof operations / sizeof operations[0]))
 
+/* The library's. */
+enum {
+    WRITE_FIRST = 1,
+    READ_FIRST = 3,
+    PAGE_CAPACITY = 5,
+    REWRITE = 7,
+    READ_SECOND = 9
+};
+
+/* Page 0, with one of its bytes put to another value, or its record made
+ * longer, so that an operation refuses it by a number. */
+static const struct refused {
+    int operation;
+    int byte;
+    uint8_t value;
+    size_t longer;
+    unsigned number;
+} refused[REFUSED] = {
+    {WRITE_FIRST, 0, 0x01, 0, 4},
+    {WRITE_FIRST, 255, 0x80, 0, 4},
+    {READ_FIRST, 0, 0x07, 0, 5},
+    {READ_FIRST, 1, 0x01, 0, 6},
+    {READ_FIRST, 255, 0xff, 0, 7},
+    {PAGE_CAPACITY, 0, 0x00, 0, 5},
+    {PAGE_CAPACITY, 2, 0x01, 0, 6},
+    {PAGE_CAPACITY, 3, 0xff, 0, 7},
+    {REWRITE, 0, 0xff, 0, 5},
+    {REWRITE, 1, 0x80, 0, 6},
+    {REWRITE, 128, 0xff, 0, 7},
+    {REWRITE, 0, 0x01, 1, 8},
+    {READ_SECOND, 0, 0x01, 0, 5},
+    {READ_SECOND, 1, 127, 0, 6},
+    {READ_SECOND, 3, 0x00, 0, 7},
+    {READ_SECOND, 1, 0, 0, 9},   /* spare data cells are set */
+    {READ_SECOND, 1, 126, 0, 9}, /* too few data cells */
+};
+
 static void fill_at_random(uint8_t *bytes, size_t length, uint64_t *state)
 {
     size_t i;
@@ -105,40 +152,100 @@ static void make_pages(void)
     }
 }
 
-/* Equal must be the answer, the page and the output; none may be refused. */
-static int differs(int k, int i)
+static void make_refused(void)
 {
-    page_bytes page_of_library;
-    uint8_t out_of_library[sizeof out];
-    uint64_t answer;
+    int i;
 
+    for (i = COUNT; i < PAGES; i++) {
+        const struct refused *row = &refused[i - COUNT];
+
+        memcpy(data[i], data[0], sizeof data[i]);
+        memcpy(record[i], record[0], sizeof record[i]);
+        record_length[i] = record_length[0] + row->longer;
+        memcpy(first[i], first[0], sizeof first[i]);
+        memcpy(second[i], second[0], sizeof second[i]);
+        blank[i][row->byte] = row->value;
+        first[i][row->byte] = row->value;
+        second[i][row->byte] = row->value;
+    }
+}
+
+/* What a call leaves. */
+struct left {
+    uint64_t answer;
+    page_bytes page;
+    uint8_t out[sizeof out];
+    uint8_t data[sizeof data[0]];
+    uint8_t record[sizeof record[0]];
+};
+
+static void take_buffers(struct left *left, int i)
+{
+    memcpy(left->page, page, sizeof page);
+    memcpy(left->out, out, sizeof out);
+    memcpy(left->data, data[i], sizeof data[i]);
+    memcpy(left->record, record[i], sizeof record[i]);
+}
+
+static void make_call(struct left *left, int k, int i)
+{
     memset(out, i, sizeof out);
-    answer = operations[k].call(i);
-    memcpy(page_of_library, page, sizeof page);
-    memcpy(out_of_library, out, sizeof out);
-    memset(out, i, sizeof out);
-    return operations[k + 1].call(i) != answer || wom_refusal(answer) != 0 ||
-           memcmp(page, page_of_library, sizeof page) != 0 ||
-           memcmp(out, out_of_library, sizeof out) != 0;
+    left->answer = operations[k].call(i);
+    take_buffers(left, i);
+}
+
+/* Operation k of the library, on page i: the answer, with this refusal's
+ * number, and every byte are those of plain C. */
+static void compare_call(const char *kind, int k, int i, unsigned number)
+{
+    struct left before, library, plain;
+
+    take_buffers(&before, i);
+    make_call(&library, k, i);
+    make_call(&plain, k + 1, i);
+    in_case(operations[k].name, (uint64_t)i);
+    check_number(kind, library.answer, plain.answer);
+    check_number(kind, wom_refusal(library.answer), number);
+    check_bytes("page", library.page, plain.page, sizeof plain.page);
+    check_bytes("out", library.out, plain.out, sizeof plain.out);
+    check_bytes("data", library.data, before.data, sizeof before.data);
+    check_bytes("record", library.record, before.record, sizeof before.record);
+}
+
+static void compare_pages(int k)
+{
+    int i;
+
+    for (i = 0; i < COUNT; i++)
+        compare_call("answer", k, i, 0);
+}
+
+static void compare_refused(void)
+{
+    int i;
+
+    for (i = 0; i < REFUSED; i++)
+        compare_call("refusal", refused[i].operation, COUNT + i,
+                     refused[i].number);
 }
 
 static int compare(void)
 {
-    int wrong = 0;
-    int k, i;
+    int k;
 
-    for (k = 1; k < OPERATIONS; k += 2)
-        for (i = 0; i < COUNT; i++)
-            wrong += differs(k, i);
-    printf("bench: %d of %d page calls differ from the plain functions\n",
-           wrong, OPERATIONS / 2 * COUNT);
-    return wrong != 0;
+    for (k = WRITE_FIRST; k < OPERATIONS; k += 2)
+        compare_pages(k);
+    compare_refused();
+    return finish("bench: pages beside plain C");
 }
 
 int main(int argc, char **argv)
 {
     make_pages();
-    if (argc != 3)
-        return compare();
-    return make_passes(operations, OPERATIONS, argv[1], atoi(argv[2]), COUNT);
+    if (asks_for_passes(argc, argv))
+        return make_passes(operations, OPERATIONS, argv[1], atoi(argv[2]),
+                           COUNT);
+    take_arguments(USAGE("pages"), argc, argv);
+    make_refused();
+    return compare();
 }

@@ -4,7 +4,13 @@
  *     NAME REPEATS    makes the calls of one operation REPEATS times over
  *                     (bench/run counts the instructions)
  *     no argument     compares the library with the plain functions on the same
- *                     calls; exit status 0 when nothing differs, else 1
+ *                     calls, and on some that are refused; exit status 0 when
+ *                     nothing differs, else 1
+ *     plant KIND      the same with one wrong expectation of that kind, so that
+ *                     the comparison is seen to fail: exit status 1
+ *
+ * A difference is reported with the operation and the number of the value or
+ * page.
  */
 #ifndef PASSES_H
 #define PASSES_H
@@ -13,6 +19,8 @@
 #include <stdio.h>
 #include <stdlib.h>
 #include <string.h>
+
+#define USAGE(program) program " [NAME REPEATS | plant KIND]"
 
 /* The operation `nothing` comes first; then each of the library, and the plain
  * one after it. */
@@ -26,6 +34,11 @@ static uint64_t next_state(uint64_t state)
 {
     return state * UINT64_C(6364136223846793005) +
            UINT64_C(1442695040888963407);
+}
+
+static int asks_for_passes(int argc, char **argv)
+{
+    return argc == 3 && strcmp(argv[1], "plant") != 0;
 }
 
 /* Makes one call for each of 'count' values or pages, 'repeats' times over, and

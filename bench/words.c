@@ -1,15 +1,31 @@
 /*
  * The word operations on 1,000 pseudo-random values, or their words. How it is
  * started: passes.h.
+ *
+ * Kinds: answer    an answer on a value or its word
+ *        refusal   an answer on a word that is refused
  */
+#include "../tests/c/testing.h"
 #include "passes.h"
 #include "plain.h"
 #include "wom.h"
 
 #define COUNT 1000
 
+/* Words that are refused, each with its number. They are compared only. */
+#define REFUSED 3
+
+static const struct {
+    uint64_t word;
+    unsigned number;
+} refused[REFUSED] = {
+    {UINT64_C(0x400000000000), 10}, /* the lowest bit above cell 0 */
+    {UINT64_C(0x000000000003), 11}, /* cells 44 and 45 */
+    {UINT64_C(0x2aaaaaaaaaaa), 12}, /* every even cell */
+};
+
 static uint32_t values[COUNT];
-static uint64_t encoded[COUNT];
+static uint64_t encoded[COUNT + REFUSED];
 
 #define OF_VALUE(f)                    \
     static uint64_t call_##f(int i)    \
@@ -49,6 +65,9 @@ static const struct operation operations[] = {
 
 #define OPERATIONS ((int)(sizeof operations / sizeof operations[0]))
 
+/* Every operation from decode on takes a word. */
+enum { ENCODE = 1, DECODE = 3 };
+
 static void make_values(void)
 {
     uint64_t state = 1;
@@ -59,26 +78,54 @@ static void make_values(void)
         values[i] = (uint32_t)(state >> 32);
         encoded[i] = plain_encode_word(values[i]);
     }
+    for (i = 0; i < REFUSED; i++)
+        encoded[COUNT + i] = refused[i].word;
+}
+
+/* Operation k of the library, on value or word i: the answer is that of plain
+ * C, with this refusal's number. */
+static void compare_call(const char *kind, int k, int i, unsigned number)
+{
+    uint64_t answer = operations[k].call(i);
+
+    in_case(operations[k].name, (uint64_t)i);
+    check_number(kind, answer, operations[k + 1].call(i));
+    check_number(kind, wom_refusal(answer), number);
+}
+
+static void compare_values(int k)
+{
+    int i;
+
+    for (i = 0; i < COUNT; i++)
+        compare_call("answer", k, i, 0);
+}
+
+static void compare_refused(int k)
+{
+    int i;
+
+    for (i = 0; i < REFUSED; i++)
+        compare_call("refusal", k, COUNT + i, refused[i].number);
 }
 
 static int compare(void)
 {
-    int wrong = 0;
-    int k, i;
+    int k;
 
-    for (k = 1; k < OPERATIONS; k += 2)
-        for (i = 0; i < COUNT; i++)
-            if (operations[k].call(i) != operations[k + 1].call(i))
-                wrong++;
-    printf("bench: %d of %d answers differ from the plain functions\n", wrong,
-           OPERATIONS / 2 * COUNT);
-    return wrong != 0;
+    for (k = ENCODE; k < OPERATIONS; k += 2)
+        compare_values(k);
+    for (k = DECODE; k < OPERATIONS; k += 2)
+        compare_refused(k);
+    return finish("bench: words beside plain C");
 }
 
 int main(int argc, char **argv)
 {
     make_values();
-    if (argc != 3)
-        return compare();
-    return make_passes(operations, OPERATIONS, argv[1], atoi(argv[2]), COUNT);
+    if (asks_for_passes(argc, argv))
+        return make_passes(operations, OPERATIONS, argv[1], atoi(argv[2]),
+                           COUNT);
+    take_arguments(USAGE("words"), argc, argv);
+    return compare();
 }
