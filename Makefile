@@ -1,4 +1,4 @@
-.PHONY: test demo archive bench figure differential vectors
+.PHONY: test demo archive bench figure differential vectors clauses
 
 CC99 = gcc -std=c99 -Wall -Wextra -Werror -pedantic -O2 -I include
 SECOND = CARGO_TARGET_DIR=target/second cargo run --quiet --release --offline --manifest-path tests/second/Cargo.toml --bin
@@ -45,3 +45,9 @@ differential: archive
 vectors:
 	$(SECOND) generate -- vectors crates/vectors
 	$(SECOND) generate -- listing crates/listing
+
+# The list of every claim's clauses, with which tests/run compares the claims.
+clauses:
+	mkdir -p target
+	tests/list-clauses crates >target/clauses
+	cp target/clauses tests/clauses
