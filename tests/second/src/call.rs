@@ -34,6 +34,8 @@ impl Entry {
     /// The entries that take a page.
     pub const OF_PAGES: [Entry; 5] =
         [Entry::WriteFirst, Entry::ReadFirst, Entry::PageCapacity, Entry::Rewrite, Entry::ReadSecond];
+    /// The entries that take data, an output or a record beside the page.
+    pub const WITH_OTHER: [Entry; 4] = [Entry::WriteFirst, Entry::ReadFirst, Entry::Rewrite, Entry::ReadSecond];
     /// The entries that take a first-round page.
     pub const OF_FIRST_PAGES: [Entry; 3] = [Entry::ReadFirst, Entry::PageCapacity, Entry::Rewrite];
 
@@ -70,6 +72,10 @@ impl Entry {
 
     pub fn takes_page(self) -> bool {
         Entry::OF_PAGES.contains(&self)
+    }
+
+    pub fn takes_other(self) -> bool {
+        Entry::WITH_OTHER.contains(&self)
     }
 
     pub fn writes_page(self) -> bool {

@@ -6,10 +6,14 @@
 
 pub mod answer;
 pub mod call;
+pub mod case;
 pub mod cases;
 pub mod command;
 pub mod coverage;
+pub mod fault;
+pub mod fenced;
 pub mod listing;
+pub mod memory;
 pub mod page;
 pub mod random;
 pub mod samples;

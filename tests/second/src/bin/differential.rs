@@ -1,16 +1,27 @@
 //! Performs calls by this implementation and by the archive `libwom.a`, and compares answers and buffers.
+//!
+//! The archive performs each page call three times: with its buffers between canary bytes, right before memory that
+//! cannot be touched, and right after such memory. Beside that memory, a buffer that the call must not write is
+//! read-only: what the entry only reads, and every buffer of a call that is refused. Then there are calls with far
+//! lengths, of whose buffers only those bytes can be touched that the rules let the call look at. A touch of what
+//! cannot be touched, and a write to what is read-only, end the run at once and are wrong.
 
-use second::answer::packed;
+use second::answer::{packed, Answer};
 use second::call::{Call, Entry};
+use second::case::{Case, Part, Place};
+use second::cases::far::{self, FarCall};
 use second::cases::{any_call, systematic};
 use second::command::command;
 use second::coverage::Coverage;
+use second::fault;
+use second::fenced::Fenced;
+use second::memory::{Access, Arena, FarArena, Side, Span, FAR_BYTES};
 use second::random::Random;
-use std::fmt;
+use std::fmt::Display;
 use std::process::ExitCode;
-use std::ptr;
 
-const USAGE: &str = "usage: differential run SEED CASES | plant answer|bytes|kept|canary|coverage";
+const USAGE: &str = "usage: differential run SEED CASES | plant \
+                     answer|bytes|kept|canary|coverage|guarded|before|after|read-only|far";
 
 /// The most differences that are described.
 const DESCRIBED_MOST: u64 = 10;
@@ -28,100 +39,95 @@ extern "C" {
     fn wom_read_second(page: *const u8, page_length: usize, out: *mut u8, out_length: usize) -> u64;
 }
 
-/// A buffer between canary bytes.
-struct Fenced {
-    bytes: Vec<u8>,
-    margin: usize,
-}
-
-impl Fenced {
-    /// The margin is at least 16 bytes and changes with the case, and with it the buffer's place in memory.
-    fn new(buffer: &[u8], case: u64) -> Fenced {
-        let margin = 16 + (case % 8) as usize;
-        let canary: Vec<u8> = (0..margin).map(|place| 0x5A ^ (place * 29) as u8).collect();
-        Fenced { bytes: [&canary, buffer, &canary].concat(), margin }
-    }
-
-    fn length(&self) -> usize {
-        self.bytes.len() - 2 * self.margin
-    }
-
-    /// The buffer's first byte; an empty buffer is null in every other case, as `wom.h` allows.
-    fn start(&mut self) -> *mut u8 {
-        if self.length() == 0 && self.margin & 1 == 0 {
-            return ptr::null_mut();
-        }
-        self.bytes[self.margin..].as_mut_ptr()
-    }
-
-    /// The buffer, and the canary bytes on both sides, with their names.
-    fn parts(&self) -> [(&'static str, &[u8]); 3] {
-        let (before, rest) = self.bytes.split_at(self.margin);
-        let (buffer, after) = rest.split_at(self.length());
-        [("buffer", buffer), ("canary before it", before), ("canary after it", after)]
-    }
-
-    /// Changes the last byte of the buffer, if it has one.
-    fn spoil_buffer(&mut self) -> bool {
-        if self.length() == 0 {
-            return false;
-        }
-        let last = self.margin + self.length() - 1;
-        self.bytes[last] ^= 1;
-        true
-    }
-
-    /// Changes the canary byte after the buffer.
-    fn spoil_canary(&mut self) -> bool {
-        let after = self.margin + self.length();
-        self.bytes[after] ^= 1;
-        true
-    }
-}
-
-/// What there is after a call: the packed answer, and the buffers.
-struct Outcome {
-    answer: u64,
-    page: Fenced,
-    other: Fenced,
-}
-
-/// The outcome by the archive.
-fn given(call: &Call, case: u64) -> Outcome {
-    let mut page = Fenced::new(&call.page, case);
-    let mut other = Fenced::new(&call.other, case);
-    let answer = perform(call, &mut page, &mut other);
-    Outcome { answer, page, other }
-}
-
-/// Performs the call by the archive.
-fn perform(call: &Call, page: &mut Fenced, other: &mut Fenced) -> u64 {
-    let (page_length, other_length) = (page.length(), other.length());
-    let (page, other) = (page.start(), other.start());
-    // SAFETY: each pointer is valid for the length given with it, and the two buffers lie in different allocations.
+/// Performs the call by the archive, with these buffers in place of its own.
+fn perform(call: &Call, page: Span, other: Span) -> u64 {
+    // SAFETY: the two buffers lie in different memory, and each is valid for the length given with it, as far as the
+    // rules let the call look at it and write it. What goes beyond that ends in a fault, which is reported.
     unsafe {
         match call.entry {
             Entry::EncodeWord => wom_encode_word(call.argument as u32),
             Entry::DecodeWord => wom_decode_word(call.argument),
             Entry::FillWord => wom_fill_word(call.argument),
             Entry::WordCapacity => wom_word_capacity(call.argument),
-            Entry::WriteFirst => wom_write_first(page, page_length, other, other_length),
-            Entry::ReadFirst => wom_read_first(page, page_length, other, other_length),
-            Entry::PageCapacity => wom_page_capacity(page, page_length),
-            Entry::Rewrite => wom_rewrite(page, page_length, other, other_length),
-            Entry::ReadSecond => wom_read_second(page, page_length, other, other_length),
+            Entry::WriteFirst => wom_write_first(page.start, page.length, other.start, other.length),
+            Entry::ReadFirst => wom_read_first(page.start, page.length, other.start, other.length),
+            Entry::PageCapacity => wom_page_capacity(page.start, page.length),
+            Entry::Rewrite => wom_rewrite(page.start, page.length, other.start, other.length),
+            Entry::ReadSecond => wom_read_second(page.start, page.length, other.start, other.length),
         }
+    }
+}
+
+/// What there is after a call by this implementation: the answer, and the buffers.
+#[derive(Clone)]
+struct Expected {
+    answer: Answer,
+    page: Vec<u8>,
+    other: Vec<u8>,
+}
+
+impl Expected {
+    fn of(call: &Call) -> Expected {
+        let mut after = call.clone();
+        let answer = after.perform();
+        Expected { answer, page: after.page, other: after.other }
+    }
+
+    /// The same with another byte at the end of the page.
+    fn spoiled(&self) -> Expected {
+        let mut spoiled = self.clone();
+        if let Some(byte) = spoiled.page.last_mut() {
+            *byte ^= 1;
+        }
+        spoiled
+    }
+}
+
+/// What there is after a call between canary bytes: the packed answer, and the buffers.
+struct Outcome {
+    answer: u64,
+    page: Fenced,
+    other: Fenced,
+}
+
+impl Outcome {
+    fn expected(expected: &Expected, case: u64) -> Outcome {
+        let Expected { answer, page, other } = expected;
+        Outcome { answer: packed(*answer), page: Fenced::new(page, case), other: Fenced::new(other, case) }
+    }
+
+    /// The outcome by the archive.
+    fn given(call: &Call, case: u64) -> Outcome {
+        let mut page = Fenced::new(&call.page, case);
+        let mut other = Fenced::new(&call.other, case);
+        let answer = perform(call, page.span(), other.span());
+        Outcome { answer, page, other }
     }
 }
 
 /// The kinds of expectation, one of which may be made wrong.
 #[derive(Clone, Copy, PartialEq, Eq)]
 enum Kind {
+    /// The answer between canary bytes.
     Answer,
+    /// A byte of a buffer that the entry writes.
     Bytes,
+    /// A byte of a buffer that the entry only reads.
     Kept,
+    /// A canary byte.
     Canary,
+    /// A counter.
     Coverage,
+    /// A byte of a page beside untouchable memory.
+    Guarded,
+    /// The byte before a page.
+    Before,
+    /// The byte after a page.
+    After,
+    /// A page that must not be written.
+    ReadOnly,
+    /// The answer to a far length.
+    Far,
 }
 
 impl Kind {
@@ -132,11 +138,16 @@ impl Kind {
             "kept" => Some(Kind::Kept),
             "canary" => Some(Kind::Canary),
             "coverage" => Some(Kind::Coverage),
+            "guarded" => Some(Kind::Guarded),
+            "before" => Some(Kind::Before),
+            "after" => Some(Kind::After),
+            "read-only" => Some(Kind::ReadOnly),
+            "far" => Some(Kind::Far),
             _ => None,
         }
     }
 
-    /// Makes one expectation of this kind wrong, if the call has one.
+    /// Makes one expectation of this kind wrong, if the call between canary bytes has one.
     fn spoil(self, entry: Entry, expected: &mut Outcome) -> bool {
         let Outcome { answer, page, other } = expected;
         let (written, kept) = if entry.writes_page() { (page, other) } else { (other, page) };
@@ -148,7 +159,7 @@ impl Kind {
             Kind::Bytes => written.spoil_buffer(),
             Kind::Kept => kept.spoil_buffer(),
             Kind::Canary => entry.takes_page() && kept.spoil_canary(),
-            Kind::Coverage => false,
+            _ => false,
         }
     }
 }
@@ -161,36 +172,14 @@ fn first_difference(expected: &[u8], given: &[u8]) -> String {
     }
 }
 
-/// One case of a run; its text names it.
-struct Case<'a> {
-    seed: u64,
-    part: &'static str,
-    number: u64,
-    call: &'a Call,
-}
-
-impl fmt::Display for Case<'_> {
-    fn fmt(&self, out: &mut fmt::Formatter) -> fmt::Result {
-        let Case { seed, part, number, call } = self;
-        write!(out, "seed {seed}, {part} case {number}, {} (", call.entry.name())?;
-        if call.entry.takes_page() {
-            write!(out, "page of {} bytes, other buffer of {} bytes)", call.page.len(), call.other.len())
-        } else {
-            write!(out, "argument {:#x})", call.argument)
-        }
-    }
-}
-
-/// A run and what it has found.
-struct Run {
-    seed: u64,
-    plant: Option<Kind>,
-    coverage: Coverage,
+/// What a run has compared.
+#[derive(Default)]
+struct Tally {
     checks: u64,
     wrong: u64,
 }
 
-impl Run {
+impl Tally {
     fn check(&mut self, agrees: bool, difference: impl FnOnce() -> String) {
         self.checks += 1;
         if agrees {
@@ -202,43 +191,189 @@ impl Run {
         }
     }
 
-    /// Performs one call twice and compares.
-    fn case(&mut self, part: &'static str, number: u64, call: &Call) {
-        let mut expected = self.expected(call, number);
-        if self.plant.is_some_and(|kind| kind.spoil(call.entry, &mut expected)) {
+    fn compare_answers(&mut self, case: &Case, expected: u64, given: u64) {
+        self.check(expected == given, || format!("{case}: the answer is {given:#x}, not {expected:#x}"));
+    }
+
+    fn compare_bytes(&mut self, case: &Case, name: impl Display, expected: &[u8], given: &[u8]) {
+        self.check(expected == given, || format!("{case}: {name}: {}", first_difference(expected, given)));
+    }
+
+    fn compare_fenced(&mut self, case: &Case, name: &str, expected: &Fenced, given: &Fenced) {
+        for ((part, expected), (_, given)) in expected.parts().into_iter().zip(given.parts()) {
+            self.compare_bytes(case, format_args!("{name}, {part}"), expected, given);
+        }
+    }
+
+    /// Keeps the call that is to be made for the report of a fault.
+    fn mark(&self, case: &Case) {
+        fault::mark(case, self.checks, self.wrong);
+    }
+}
+
+/// A run, its memory, and what it has found.
+struct Run {
+    seed: u64,
+    plant: Option<Kind>,
+    coverage: Coverage,
+    tally: Tally,
+    page: Arena,
+    other: Arena,
+    far: FarArena,
+}
+
+impl Run {
+    fn new(seed: u64, plant: Option<Kind>) -> Run {
+        let (page, other, far) = (Arena::new(), Arena::new(), FarArena::new());
+        Run { seed, plant, coverage: Coverage::new(), tally: Tally::default(), page, other, far }
+    }
+
+    /// Whether an expectation of this kind is to be made wrong here; it is then the only one.
+    fn takes_plant(&mut self, kind: Kind, fits: bool) -> bool {
+        let taken = fits && self.plant == Some(kind);
+        if taken {
             self.plant = None;
         }
-        let case = Case { seed: self.seed, part, number, call };
-        self.compare(&case, &expected, &given(call, number));
+        taken
     }
 
-    /// The outcome by this implementation, which is counted.
-    fn expected(&mut self, call: &Call, number: u64) -> Outcome {
-        let mut after = call.clone();
-        let answer = after.perform();
-        self.coverage.count(call.entry, answer);
-        let (page, other) = (Fenced::new(&after.page, number), Fenced::new(&after.other, number));
-        Outcome { answer: packed(answer), page, other }
+    /// Performs one call by this implementation, and by the archive in each place of its buffers; compares.
+    fn case(&mut self, part: Part, number: u64, call: &Call) {
+        let expected = Expected::of(call);
+        let case = Case::new(self.seed, part, number, call);
+        self.fenced(&case, call, &expected);
+        if call.entry.takes_page() {
+            Side::BOTH.into_iter().for_each(|side| self.guarded(&case, call, &expected, side));
+        }
     }
 
-    fn compare(&mut self, case: &Case, expected: &Outcome, given: &Outcome) {
-        self.check(expected.answer == given.answer, || {
-            format!("{case}: the answer is {:#x}, not {:#x}", given.answer, expected.answer)
-        });
-        let entry = case.call.entry;
+    /// Performs one call with its buffers between canary bytes, and compares.
+    fn fenced(&mut self, case: &Case, call: &Call, expected: &Expected) {
+        let entry = call.entry;
+        let answer = expected.answer;
+        let mut expected = Outcome::expected(expected, case.number);
+        if self.plant.is_some_and(|kind| kind.spoil(entry, &mut expected)) {
+            self.plant = None;
+        }
+        self.tally.mark(case);
+        let given = Outcome::given(call, case.number);
+        self.coverage.count(entry, case.place, answer);
+        self.tally.compare_answers(case, expected.answer, given.answer);
         if entry.takes_page() {
-            self.compare_buffers(case, "page", &expected.page, &given.page);
+            self.tally.compare_fenced(case, "page", &expected.page, &given.page);
         }
-        if entry.takes_page() && entry != Entry::PageCapacity {
-            self.compare_buffers(case, "other buffer", &expected.other, &given.other);
+        if entry.takes_other() {
+            self.tally.compare_fenced(case, "other buffer", &expected.other, &given.other);
         }
     }
 
-    fn compare_buffers(&mut self, case: &Case, buffer: &str, expected: &Fenced, given: &Fenced) {
-        for ((part, expected), (_, given)) in expected.parts().into_iter().zip(given.parts()) {
-            self.check(expected == given, || {
-                format!("{case}: {buffer}, {part}: {}", first_difference(expected, given))
-            });
+    /// Where the buffers of a call lie on this side of untouchable memory: in read-only memory when it is refused.
+    fn guarded_place(&mut self, entry: Entry, answer: Answer, side: Side) -> Place {
+        if answer.is_err() || self.takes_plant(Kind::ReadOnly, entry.writes_page()) {
+            Place::ReadOnly(side)
+        } else {
+            Place::Guarded(side)
+        }
+    }
+
+    /// The page of an accepted call as it is told; planted, it reaches one byte into the untouchable memory.
+    fn planted_page(&mut self, page: Span, place: Place) -> Span {
+        if self.takes_plant(Kind::After, place == Place::Guarded(Side::Before)) {
+            page.shifted(1)
+        } else if self.takes_plant(Kind::Before, place == Place::Guarded(Side::After)) {
+            page.shifted(-1)
+        } else {
+            page
+        }
+    }
+
+    /// Performs one call with its buffers on this side of untouchable memory, and compares.
+    fn guarded(&mut self, case: &Case, call: &Call, expected: &Expected, side: Side) {
+        let entry = call.entry;
+        let place = self.guarded_place(entry, expected.answer, side);
+        let case = case.at(place);
+        let accepted = place == Place::Guarded(side);
+        let page = self.page.put(&call.page, side, Access::writable_if(accepted && entry.writes_page()));
+        let other = self.other.put(&call.other, side, Access::writable_if(accepted && entry.writes_output()));
+        let page = self.planted_page(page, place);
+        self.tally.mark(&case);
+        let answer = perform(call, page, other);
+        self.coverage.count(entry, place, expected.answer);
+        let spoiled = self.takes_plant(Kind::Guarded, !call.page.is_empty()).then(|| expected.spoiled());
+        self.compare_guarded(&case, spoiled.as_ref().unwrap_or(expected), answer, side);
+    }
+
+    fn compare_guarded(&mut self, case: &Case, expected: &Expected, answer: u64, side: Side) {
+        let Expected { answer: expected, page, other } = expected;
+        self.tally.compare_answers(case, packed(*expected), answer);
+        self.tally.compare_bytes(case, "page", page, self.page.bytes(page.len(), side));
+        if case.entry.takes_other() {
+            self.tally.compare_bytes(case, "other buffer", other, self.other.bytes(other.len(), side));
+        }
+    }
+
+    /// The page of a far call: untouchable when it is far, read-only when it is not.
+    fn far_page(&mut self, far: &FarCall) -> Span {
+        match far.page {
+            Some(length) => self.far.untouchable(0, length),
+            None => self.page.put(&far.near.page, Side::Before, Access::ReadOnly),
+        }
+    }
+
+    /// The other buffer of a far call: read-only when it is not far, and else untouchable but for the bytes touched.
+    fn far_other(&mut self, far: &FarCall, touched: usize) -> Span {
+        match far.other {
+            Some(length) if touched > 0 => self.far.put(&far.near.other[..touched], length),
+            Some(length) if far.page.is_some() => self.far.untouchable(FAR_BYTES / 2, length),
+            Some(length) => self.far.untouchable(0, length),
+            None => self.other.put(&far.near.other, Side::Before, Access::ReadOnly),
+        }
+    }
+
+    /// Performs the near call by this implementation and the far one by the archive; compares.
+    fn far_case(&mut self, number: u64, far: &FarCall) {
+        let expected = Expected::of(&far.near);
+        let (page_length, other_length) = (far.page_length(), far.other_length());
+        let case = Case::new(self.seed, Part::Far, number, &far.near).at(Place::Far);
+        let case = Case { page_length, other_length, ..case };
+        let touched = far.touched(expected.answer);
+        let (page, other) = (self.far_page(far), self.far_other(far, touched));
+        self.tally.mark(&case);
+        let answer = perform(&far.near, page, other);
+        self.coverage.count(case.entry, case.place, expected.answer);
+        let spoil = u64::from(self.takes_plant(Kind::Far, true));
+        self.tally.compare_answers(&case, packed(expected.answer) ^ spoil, answer);
+        self.compare_far(&case, far, &expected, touched);
+    }
+
+    /// Compares what can be touched of the buffers.
+    fn compare_far(&mut self, case: &Case, far: &FarCall, expected: &Expected, touched: usize) {
+        let Expected { page, other, .. } = expected;
+        if far.page.is_none() {
+            self.tally.compare_bytes(case, "page", page, self.page.bytes(page.len(), Side::Before));
+        }
+        if far.other.is_none() && case.entry.takes_other() {
+            self.tally.compare_bytes(case, "other buffer", other, self.other.bytes(other.len(), Side::Before));
+        }
+        if touched > 0 {
+            self.tally.compare_bytes(case, "other buffer", &other[..touched], self.far.bytes(touched));
+        }
+    }
+
+    /// Returns the number of cases.
+    fn systematic_cases(&mut self) -> usize {
+        let calls = systematic::calls();
+        (0..).zip(&calls).for_each(|(number, call)| self.case(Part::Systematic, number, call));
+        calls.len()
+    }
+
+    fn far_cases(&mut self) {
+        (0..).zip(&far::calls()).for_each(|(number, far)| self.far_case(number, far));
+    }
+
+    fn random_cases(&mut self, cases: u64) {
+        for number in 0..cases {
+            self.case(Part::Random, number, &any_call(&mut Random::of_case(self.seed, number)));
         }
     }
 
@@ -248,26 +383,26 @@ impl Run {
             self.coverage.forget_one();
         }
         for (name, met) in self.coverage.wanted() {
-            self.check(met > 0, || format!("never met: {name}"));
+            self.tally.check(met > 0, || format!("never met: {name}"));
         }
     }
 }
 
-/// The systematic cases, `cases` random ones, and the coverage; the exit status tells whether all was right.
+/// The systematic cases, the far ones, `cases` random ones, and the coverage; the exit status tells whether all was
+/// right.
 fn run(seed: u64, cases: u64, plant: Option<Kind>) -> ExitCode {
-    let mut run = Run { seed, plant, coverage: Coverage::new(), checks: 0, wrong: 0 };
-    let systematic = systematic::calls();
-    for (number, call) in (0..).zip(&systematic) {
-        run.case("systematic", number, call);
-    }
-    for number in 0..cases {
-        run.case("random", number, &any_call(&mut Random::of_case(seed, number)));
-    }
+    fault::install();
+    let mut run = Run::new(seed, plant);
+    let systematic = run.systematic_cases();
+    run.far_cases();
+    run.random_cases(cases);
     run.check_coverage();
+    let Tally { checks, wrong } = run.tally;
     print!("{}", run.coverage.table());
-    println!("differential: {} systematic cases before them", systematic.len());
-    println!("differential: seed {seed}, {cases} cases, {} checks, {} wrong", run.checks, run.wrong);
-    ExitCode::from(u8::from(run.wrong > 0))
+    println!("differential: {}", run.coverage.places());
+    println!("differential: {systematic} systematic cases before them");
+    println!("differential: seed {seed}, {cases} cases, {checks} checks, {wrong} wrong");
+    ExitCode::from(u8::from(wrong > 0))
 }
 
 /// What the arguments ask for, or nothing when they are not as the usage says.

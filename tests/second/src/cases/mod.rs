@@ -1,6 +1,7 @@
 //! The making of calls, shared by the vectors and the differential run.
 
 pub mod damage;
+pub mod far;
 pub mod lengths;
 pub mod pages;
 pub mod systematic;

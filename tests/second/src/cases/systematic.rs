@@ -62,9 +62,9 @@ impl Walk {
         }
     }
 
-    /// Values at every weight, listed values and the largest, and their words.
+    /// Values at every weight and beside it, listed values and the largest, and their words.
     fn values(&mut self) {
-        let weights = (0..CELLS).flat_map(|cell| [weight(cell) as u32 - 1, weight(cell) as u32]);
+        let weights = (0..CELLS).flat_map(|cell| [0, 1, 2].map(|more| (weight(cell) - 1) as u32 + more));
         for value in weights.chain(LISTED_VALUES).chain([u32::MAX - 1, u32::MAX]) {
             self.calls.push(Call::of_word(Entry::EncodeWord, u64::from(value)));
             self.word(number_of(&legal_word(value)));
@@ -284,7 +284,19 @@ mod tests {
 
     #[test]
     fn the_number_of_calls() {
-        assert_eq!(answered().len(), 46_740);
+        assert_eq!(answered().len(), 46_924);
+    }
+
+    /// "cell 0 is worth 2971215073": that word alone, and its neighbours.
+    #[test]
+    fn values_about_the_weight_of_cell_0() {
+        let values = [2_971_215_072, 2_971_215_073, 2_971_215_074];
+        occurs(Entry::EncodeWord, values, |call, _| Some(call.argument as u32));
+        for entry in Entry::OF_WORDS {
+            let words = values.map(|value| number_of(&legal_word(value)));
+            occurs(entry, words, |call, answer| answer.is_ok().then_some(call.argument));
+        }
+        assert_eq!(number_of(&legal_word(values[1])), 1 << 45);
     }
 
     #[test]

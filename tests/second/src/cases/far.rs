@@ -1,0 +1,260 @@
+//! The calls of the differential run with lengths far beyond any page, record or output.
+
+use super::damage::{combined, sound};
+use super::lengths::resized;
+use super::pages::{any_first, first_page, second_page};
+use super::words::SPARSE_VALUE;
+use crate::answer::Answer;
+use crate::call::{Call, Entry};
+use crate::memory::FAR_BYTES;
+use crate::page::{FIRST_BYTES, PAGE_BYTES, SECOND_BYTES_MOST, WORDS};
+use crate::random::Random;
+
+const SEED: u64 = 2_024;
+
+/// Far lengths are one of these and a low part; cut to fewer bits, the low part is what is left of them.
+const HIGH_PARTS: [usize; 6] = [1 << 8, 1 << 16, 1 << 31, 1 << 32, 1 << 40, 1 << 45];
+
+/// Far lengths of other kinds.
+const OTHER_LENGTHS: [usize; 4] = [1 << 20, (1 << 32) - 1, 1 << 32, FAR_BYTES - 4_096];
+
+/// Record lengths of which 8 times, cut to 31, 32, 63 or 64 bits, fits a page, or is below 0.
+const WRAPPED_LENGTHS: [usize; 9] = [
+    (1 << 28) + 20,
+    (1 << 29) + 20,
+    (1 << 60) + 20,
+    1 << 61,
+    (1 << 61) + 1,
+    (1 << 61) + 82,
+    (1 << 61) + 126,
+    (1 << 62) + 20,
+    isize::MAX as usize,
+];
+
+/// A call with a far length. The rules treat all lengths alike that are too long, or long enough: the answer is that of
+/// the near call, whose page, data or record is a little too long, or whose output is long enough.
+pub struct FarCall {
+    pub near: Call,
+    /// The lengths that are told in place of the near ones.
+    pub page: Option<usize>,
+    pub other: Option<usize>,
+}
+
+impl FarCall {
+    pub fn page_length(&self) -> usize {
+        self.page.unwrap_or(self.near.page.len())
+    }
+
+    pub fn other_length(&self) -> usize {
+        self.other.unwrap_or(self.near.other.len())
+    }
+
+    /// The number of bytes of the far output that are looked at: those of the record. The rules refuse a page, data and
+    /// a record of a far length by the length alone.
+    pub fn touched(&self, answer: Answer) -> usize {
+        match (self.near.entry, answer) {
+            (Entry::ReadFirst, Ok(_)) => FIRST_BYTES,
+            (Entry::ReadSecond, Ok(length)) => length as usize,
+            _ => 0,
+        }
+    }
+}
+
+/// The far lengths with this low part, and others.
+fn far_lengths(low: usize) -> Vec<usize> {
+    HIGH_PARTS.into_iter().map(|high| high + low).chain(OTHER_LENGTHS).collect()
+}
+
+/// The low part that would change the answer for the entry's other buffer.
+fn low_part(entry: Entry) -> usize {
+    match entry {
+        Entry::WriteFirst => FIRST_BYTES,
+        Entry::Rewrite => 20,
+        _ => 0,
+    }
+}
+
+/// A length of the entry's other buffer with which the answer is that of a far one.
+fn near_length(entry: Entry) -> usize {
+    match entry {
+        Entry::WriteFirst => FIRST_BYTES + 1,
+        Entry::Rewrite => SECOND_BYTES_MOST + 1,
+        _ => FIRST_BYTES,
+    }
+}
+
+/// None of the entry's refusals, and each by itself but those for the other buffer's length: choices for `combined`.
+fn single_choices(entry: Entry) -> Vec<usize> {
+    let single = |(place, number): (usize, &u8)| (!matches!(number, 2 | 3 | 8)).then_some(1 << place);
+    [0].into_iter().chain(entry.refusals().iter().enumerate().filter_map(single)).collect()
+}
+
+/// The calls made so far.
+struct Walk {
+    random: Random,
+    calls: Vec<FarCall>,
+}
+
+/// All calls with far lengths.
+pub fn calls() -> Vec<FarCall> {
+    let mut walk = Walk { random: Random::new(SEED), calls: Vec::new() };
+    Entry::OF_PAGES.into_iter().for_each(|entry| walk.pages(entry));
+    Entry::WITH_OTHER.into_iter().for_each(|entry| walk.others(entry));
+    Entry::WITH_OTHER.into_iter().for_each(|entry| walk.both(entry));
+    [0, 1, 82, 126].into_iter().for_each(|record| walk.outputs(record));
+    walk.records();
+    walk.calls
+}
+
+impl Walk {
+    /// A sound call but for its page, which is one byte too long.
+    fn long_page(&mut self, entry: Entry) -> Call {
+        let call = sound(&mut self.random, entry);
+        Call { page: resized(&mut self.random, call.page.clone(), PAGE_BYTES + 1), ..call }
+    }
+
+    /// Pages of every far length.
+    fn pages(&mut self, entry: Entry) {
+        for length in far_lengths(PAGE_BYTES) {
+            let near = self.long_page(entry);
+            self.calls.push(FarCall { near, page: Some(length), other: None });
+        }
+    }
+
+    /// A call that meets these conditions, with the other buffer of every far length.
+    fn others_with(&mut self, entry: Entry, chosen: usize) {
+        for length in far_lengths(low_part(entry)) {
+            let call = combined(&mut self.random, entry, chosen);
+            let near = Call { other: self.random.bytes(near_length(entry)), ..call };
+            self.calls.push(FarCall { near, page: None, other: Some(length) });
+        }
+    }
+
+    /// Data, records and outputs of every far length, over sound pages and pages that are refused for any reason.
+    fn others(&mut self, entry: Entry) {
+        single_choices(entry).into_iter().for_each(|chosen| self.others_with(entry, chosen));
+    }
+
+    /// A page and the other buffer of far lengths.
+    fn both(&mut self, entry: Entry) {
+        for high in [1 << 16, 1 << 32, 1 << 40] {
+            let near = self.long_page(entry);
+            let (page, other) = (Some(high + PAGE_BYTES), Some(high + low_part(entry)));
+            self.calls.push(FarCall { near, page, other });
+        }
+    }
+
+    /// Outputs of every far length for a record of this length.
+    fn outputs(&mut self, record: usize) {
+        let second = second_page(&first_page(&[0; WORDS]), &self.random.bytes(record));
+        for length in far_lengths(low_part(Entry::ReadSecond)) {
+            let output = self.random.bytes(near_length(Entry::ReadSecond));
+            let near = Call::of_page(Entry::ReadSecond, second.clone(), output);
+            self.calls.push(FarCall { near, page: None, other: Some(length) });
+        }
+    }
+
+    /// Records of which 8 times the length is cut, over this first-round page.
+    fn records_over(&mut self, first: &[u8]) {
+        for length in WRAPPED_LENGTHS {
+            let record = self.random.bytes(near_length(Entry::Rewrite));
+            let near = Call::of_page(Entry::Rewrite, first.to_vec(), record);
+            self.calls.push(FarCall { near, page: None, other: Some(length) });
+        }
+    }
+
+    /// Such records over the least, the most and a middle capacity.
+    fn records(&mut self) {
+        let any = any_first(&mut self.random);
+        let firsts = [first_page(&[SPARSE_VALUE; WORDS]), first_page(&[0; WORDS]), any];
+        firsts.iter().for_each(|first| self.records_over(first));
+    }
+}
+
+#[cfg(test)]
+mod tests {
+    use super::*;
+    use crate::answer::number;
+
+    /// Each call with its answer.
+    fn answered() -> Vec<(FarCall, Answer)> {
+        let with_answer = |far: FarCall| {
+            let answer = far.near.clone().perform();
+            (far, answer)
+        };
+        calls().into_iter().map(with_answer).collect()
+    }
+
+    #[test]
+    fn the_number_of_calls() {
+        assert_eq!(calls().len(), 319);
+    }
+
+    #[test]
+    fn every_call_has_a_far_length() {
+        assert!(calls().iter().all(|far| far.page.is_some() || far.other.is_some()));
+        assert!(calls().iter().all(|far| far.page_length().max(far.other_length()) >= 256));
+    }
+
+    /// "1 if the page is not 256 bytes".
+    #[test]
+    fn a_far_page_is_refused_1() {
+        let far_pages = answered().into_iter().filter(|(far, _)| far.page.is_some());
+        assert!(far_pages.into_iter().all(|(_, answer)| number(answer) == 1));
+    }
+
+    /// A far output is not refused 3; far data and records are refused, if not before, by 2 and by 8.
+    #[test]
+    fn a_far_other_buffer_is_told_by_its_length_alone() {
+        for (far, answer) in answered().into_iter().filter(|(far, _)| far.page.is_none()) {
+            let wanted: &[u8] = match far.near.entry {
+                Entry::WriteFirst => &[1, 2],
+                Entry::ReadFirst => &[0, 1, 5, 6, 7],
+                Entry::Rewrite => &[1, 5, 6, 7, 8],
+                _ => &[0, 1, 5, 6, 7, 9],
+            };
+            assert!(wanted.contains(&number(answer)), "{} {answer:?}", far.near.entry.name());
+        }
+    }
+
+    /// What is not reserved is only for records that are refused 8, which are never looked at.
+    #[test]
+    fn lengths_that_are_not_reserved() {
+        for (far, answer) in answered() {
+            let lengths = far.page_length().max(far.other_length());
+            assert!(lengths <= FAR_BYTES || number(answer) == 8, "{} {answer:?}", far.near.entry.name());
+        }
+    }
+
+    /// Two far buffers each take a half of what is reserved.
+    #[test]
+    fn two_far_buffers_do_not_overlap() {
+        let both = calls().into_iter().filter(|far| far.page.is_some() && far.other.is_some());
+        assert!(both.into_iter().all(|far| far.page_length().max(far.other_length()) <= FAR_BYTES / 2));
+    }
+
+    /// Cut to 32 bits, a length looks sound, or too short for an output.
+    #[test]
+    fn lengths_that_look_otherwise_in_32_bits() {
+        let low = |length: usize| length as u32 as usize;
+        for (entry, wanted) in [(Entry::WriteFirst, FIRST_BYTES), (Entry::Rewrite, 20), (Entry::ReadFirst, 0)] {
+            let of_entry = |far: &FarCall| far.near.entry == entry && far.page.is_none();
+            let met =
+                |far: FarCall| of_entry(&far) && far.other_length() > 1 << 32 && low(far.other_length()) == wanted;
+            assert!(calls().into_iter().any(met), "{}", entry.name());
+        }
+        for entry in Entry::OF_PAGES {
+            let met = |far: FarCall| far.near.entry == entry && far.page == Some((1 << 32) + PAGE_BYTES);
+            assert!(calls().into_iter().any(met), "{}", entry.name());
+        }
+    }
+
+    /// 8 times the length fits the least capacity in each number of bits.
+    #[test]
+    fn lengths_of_which_8_times_is_cut() {
+        for (bits, wanted) in [(31, (1 << 28) + 20), (32, (1 << 29) + 20), (64, (1 << 61) + 82)] {
+            assert!(WRAPPED_LENGTHS.contains(&wanted));
+            assert!(8 * (wanted as u128) % (1 << bits) <= 660, "{bits} bits");
+        }
+    }
+}
