@@ -6,8 +6,5 @@ pub mod FirstRecord
 pub mod SecondWords
 pub mod Loaded
 pub mod Measuring
-pub mod Rewriting
-pub mod Records
-pub mod Gathering
 pub mod Blank
 pub mod Capacities

@@ -10,7 +10,7 @@ use native.Mathlib.Numerals.{add-one}
 use native.Mathlib.Omega.{arith}
 use lib.Dec.{lit<}
 use lib.ListN.{length, take, drop, getD, length-append, length-drop, take-append-drop}
-use lib.Seq.{take-append-le, take-at, drop-at, length-take-le, drop-drop, take-take, take-nil, drop-append-add, take-add}
+use lib.Seq.{take-at, drop-at, length-take-le, drop-drop, take-nil, drop-append-add, take-add}
 use Rattle.cells.specs.Cells.{number, cells}
 use Rattle.cells.specs.Bytes.{bits, bytes, Bytes}
 use Rattle.cells.proofs.Numbers.{cells-of, number-below}
@@ -34,19 +34,6 @@ length-splice a new l h =
       length-drop (a + length new) l,
       length-take-le a l (omega arith),
     )
-
--- what was put is there
-pub splice-at : (a : ℕ) (new l : List Bool) → a ≤ length l → take (length new) (drop a (splice a new l)) ≡ new
-unfolding splice
-splice-at a new l h =
-    ap (take (length new)) (drop-at (take a l) (new ++ drop (a + length new) l) a (length-take-le a l h))
-    ∙ take-at new (drop (a + length new) l) (length new) refl
-
--- what is before it stays
-pub splice-before : (n a : ℕ) (new l : List Bool) → n ≤ a → a ≤ length l → take n (splice a new l) ≡ take n l
-unfolding splice
-splice-before n a new l h k =
-    take-append-le n (take a l) (new ++ drop (a + length new) l) (omega (arith, length-take-le a l k)) ∙ take-take n a l h
 
 -- what is after it stays
 pub splice-after : (n a : ℕ) (new l : List Bool) → a + length new ≤ n → a ≤ length l → drop n (splice a new l) ≡ drop n l
@@ -96,38 +83,6 @@ module _ (page : List ℕ) (a : ℕ) (new : List Bool) where
   putCells-more w h =
       ap₂ bytes length-putCells
       (ap (splice (a + length new) w) (bits-putCells h) ∙ splice-more a new w (bits page) (omega (arith, length-bits page)))
-
--- ---- a word put
-
-module _ (page : List ℕ) (i : ℕ) (w : List Bool) (e : length w ≡ 46) (h : start i + 46 ≤ 8 * length page) where
-  pub bits-putWord : bits (putWord page i w) ≡ splice (start i) w (bits page)
-  unfolding putWord
-  bits-putWord = bits-putCells page (start i) w (omega arith)
-
-  pub wordAt-same : wordAt (putWord page i w) i ≡ w
-  unfolding wordAt
-  wordAt-same =
-      ap (λ (l : List Bool). take 46 (drop (start i) l)) bits-putWord
-      ∙ ap (λ (n : ℕ). take n (drop (start i) (splice (start i) w (bits page)))) (sym e)
-      ∙ splice-at (start i) w (bits page) (omega (arith, length-bits page))
-
-  pub wordAt-later : (j : ℕ) → i < j → wordAt (putWord page i w) j ≡ wordAt page j
-  unfolding wordAt
-  wordAt-later j k =
-      ap (λ (l : List Bool). take 46 (drop (start j) l)) bits-putWord
-      ∙ ap (take 46) (splice-after (start j) (start i) w (bits page) (omega arith) (omega (arith, length-bits page)))
-
-  pub wordAt-earlier : (j : ℕ) → j < i → wordAt (putWord page i w) j ≡ wordAt page j
-  unfolding wordAt
-  wordAt-earlier j k =
-      ap (λ (l : List Bool). take 46 (drop (start j) l)) bits-putWord
-      ∙ sym (drop-take (start j) 46 (splice (start i) w (bits page)))
-      ∙ ap (drop (start j)) (splice-before (start j + 46) (start i) w (bits page) (omega arith) (omega (arith, length-bits page)))
-      ∙ drop-take (start j) 46 (bits page)
-
-  pub length-putWord : length (putWord page i w) ≡ length page
-  unfolding putWord
-  length-putWord = length-putCells page (start i) w
 
 -- ---- words, one after another
 
@@ -282,13 +237,6 @@ module _ (ws : List (List Bool)) (m : ℕ) (hs : Words ws) (e : 46 * length ws �
       ap (λ (l : List Bool). pieces (length ws) (drop 24 l)) (bits-pageOf head tail)
       ∙ ap (pieces (length ws)) (drop-at (bits head) (join ws ++ bits tail) 24 (omega (arith, length-bits head)))
       ∙ pieces-join ws (bits tail) hs
-
--- a page made from its own words
-pub pageOf-pageWords : (page : List ℕ) (n m : ℕ) → Bytes page → 46 * n ≡ 8 * m → 3 + m ≤ length page
-    → pageOf (take 3 page) (pageWords page n) (drop (3 + m) page) ≡ page
-pageOf-pageWords page n m b e h =
-    sym (putWords-all (pageWords page n) m (Words-pageWords page n (omega arith)) (ap (λ (k : ℕ). 46 * k) (length-pageWords page n) ∙ e) page b h)
-    ∙ putWords-own page n b (omega arith)
 
 -- one more word
 pieces-more : (n : ℕ) (l : List Bool) → pieces (suc n) l ≡ pieces n l ++ (take 46 (drop (46 * n) l) ∷ [])

@@ -1,4 +1,4 @@
--- `page::bytes::bits_at` meets its contract: the four bytes from the bit's own byte on hold the bits. Assumes nothing.
+-- `cells::bits_at` meets its contract: the four bytes from the bit's own byte on hold the bits. Assumes nothing.
 use borrow.Author.Needs.{needs}
 use Rattle.cells.proofs.Cutting.{cut-at}
 use Rattle.cells.proofs.bits_at.Statement.{statement}

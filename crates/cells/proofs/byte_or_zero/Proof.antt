@@ -1,4 +1,4 @@
--- `page::bytes::byte_or_zero` meets its contract. Assumes nothing.
+-- `cells::byte_or_zero` meets its contract. Assumes nothing.
 use mathlib.Core.Path.{sym}
 use native.Mathlib.Omega.{arith}
 use borrow.Author.Needs.{needs}

@@ -1,10 +1,11 @@
--- `page::bytes::copy_start` meets its contract: after j turns the first 4 * j bytes are in. Assumes nothing.
+-- `cells::copy_start` meets its contract: after j turns the first 4 * j bytes are in. Assumes nothing.
+mod Copying
 use mathlib.Core.Path.{_≡_, refl, ap, _∙_}
 use Prim.Native.Nat.{ℕ, _≤_, _+_, _*_, _/_, _-_}
 use native.Mathlib.Omega.{arith}
 use lib.ListN.{length, take}
 use Rattle.cells.specs.Bytes.{Bytes, atStart}
-use Rattle.cells.proofs.Copying.{copy-more, four-whole}
+use Rattle.cells.proofs.copy_start.Proof.Copying.{copy-more, four-whole}
 use Rattle.cells.proofs.copy_start.Statement.{statement}
 use Rattle.cells.proofs.copy_start.Tie as tie
 

@@ -1,4 +1,4 @@
--- `page::bytes::four_or_zero` meets its contract: after j turns `v` is the number that the first j bytes write. Assumes nothing.
+-- `cells::four_or_zero` meets its contract: after j turns `v` is the number that the first j bytes write. Assumes nothing.
 use mathlib.Core.Path.{_≡_, refl, ap, _∙_}
 use Prim.Native.Nat.{ℕ, _≤_, _<_, _+_, _*_, _-_, _^_}
 use native.Mathlib.Omega.{arith}

@@ -1,9 +1,10 @@
--- `page::bytes::zero_from` meets its contract: the total so far is 0 exactly where the bytes before byte i are. Assumes nothing.
+-- `cells::zero_from` meets its contract: the total so far is 0 exactly where the bytes before byte i are. Assumes nothing.
+mod Zeros
 use mathlib.Core.Path.{refl}
 use Prim.Native.Nat.{_≤_, _*_, _-_}
 use native.Mathlib.Omega.{arith}
 use lib.ListN.{length}
-use Rattle.cells.proofs.Zeros.{Zero, zero-turn, zero-end}
+use Rattle.cells.proofs.zero_from.Proof.Zeros.{Zero, zero-turn, zero-end}
 use Rattle.cells.proofs.zero_from.Statement.{statement}
 use Rattle.cells.proofs.zero_from.Tie as tie
 

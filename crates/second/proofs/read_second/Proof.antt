@@ -1,5 +1,7 @@
 -- `second::read_second` meets its contract: each test answers as the definition does, in its order, and the record is copied from what was
 -- gathered. Assumes nothing.
+mod Buffers
+mod SecondChecks
 use mathlib.Core.List.{List}
 use mathlib.Core.Logic.{inl, inr}
 use mathlib.Core.Path.{refl, ap, _∙_}
@@ -12,7 +14,7 @@ use Rattle.word.specs.Fill.{wellFormed}
 use Rattle.rows.specs.Page.{page256}
 use Rattle.page.proofs.Headed.{lowest-bad}
 use Rattle.second.proofs.SecondAnswers.{read-second-1, read-second-5, read-second-6, read-second-7}
-use Rattle.second.proofs.SecondChecks.{Found, all-found, second-few, second-spare, second-output, second-done, second-record}
+use Rattle.second.proofs.read_second.Proof.SecondChecks.{Found, all-found, second-few, second-spare, second-output, second-done, second-record}
 use Rattle.second.proofs.read_second.Statement.{statement}
 use Rattle.second.proofs.read_second.Tie as tie
 

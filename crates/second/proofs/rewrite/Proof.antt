@@ -1,5 +1,6 @@
 -- `second::rewrite` meets its contract: the check's refusals are its own; where the record fits, the header is set, then the words.
 -- Assumes nothing.
+mod Headers
 use mathlib.Core.Path.{sym, ap, _∙_}
 use native.Mathlib.Omega.{arith}
 use borrow.Author.Needs.{needs}
@@ -13,7 +14,7 @@ use Rattle.page.specs.Steps.{firstCheckCode}
 use Rattle.page.proofs.Headed.{all-words}
 use Rattle.page.proofs.FirstAnswers.{check-taken}
 use Rattle.second.specs.Answer.{rewriteChecks}
-use Rattle.second.proofs.Headers.{header-length, header-words, room-small, outcome-set, rewrite-long, rewrite-done}
+use Rattle.second.proofs.rewrite.Proof.Headers.{header-length, header-words, room-small, outcome-set, rewrite-long, rewrite-done}
 use Rattle.second.proofs.rewrite.Statement.{statement}
 use Rattle.second.proofs.rewrite.Tie as tie
 

@@ -1,4 +1,4 @@
--- `cells::load_word` meets its contract: the window that ends at word i's last byte holds it.
+-- `window::load_word` meets its contract: the window that ends at word i's last byte holds it.
 -- Assumes nothing.
 use mathlib.Core.Path.{_∙_}
 use Prim.Native.Nat.{_-_}

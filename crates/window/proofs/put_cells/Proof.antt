@@ -1,4 +1,4 @@
--- `cells::put_cells` meets its contract: the window is put back with the cells from `at` on replaced.
+-- `window::put_cells` meets its contract: the window is put back with the cells from `at` on replaced.
 -- Assumes nothing.
 use mathlib.Core.Path.{_∙_}
 use Prim.Native.Nat.{_-_, _/_, _%_}

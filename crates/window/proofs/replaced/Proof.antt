@@ -1,4 +1,4 @@
--- `cells::replaced` meets its contract: the old bits are taken off, the new ones put on, and nothing is shifted out.
+-- `window::replaced` meets its contract: the old bits are taken off, the new ones put on, and nothing is shifted out.
 -- Assumes nothing.
 use mathlib.Core.Path.{_≡_, ap, sym, subst, _∙_}
 use Prim.Native.Nat.{ℕ, _+_, _-_, _*_, _/_, _%_, _^_, _<_, _≤_}

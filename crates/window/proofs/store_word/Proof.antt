@@ -1,4 +1,4 @@
--- `cells::store_word` meets its contract: the window is put back with the word's cells replaced.
+-- `window::store_word` meets its contract: the window is put back with the word's cells replaced.
 -- Assumes nothing.
 use mathlib.Core.Path.{_∙_}
 use native.Mathlib.Omega.{arith}

@@ -1,4 +1,4 @@
--- `cells::window` meets its contract: eight bytes are four and the four after them. Assumes nothing.
+-- `window::window` meets its contract: eight bytes are four and the four after them. Assumes nothing.
 use native.Mathlib.Omega.{arith}
 use borrow.Author.Needs.{needs}
 use lib.ListN.{drop}

@@ -1,5 +1,6 @@
--- `first_round::read_words` meets its contract: before word i the values of the words before it are at the output's start.
+-- `rows::first_round::read_words` meets its contract: before word i the values of the words before it are at the output's start.
 -- Assumes nothing.
+mod Turns
 use mathlib.Core.Bool.{true}
 use mathlib.Core.Path.{_≡_, refl, ap, _∙_}
 use Prim.Native.Nat.{ℕ, _*_, _≤_, _-_, _^_, _<_}
@@ -15,7 +16,7 @@ use Rattle.word.specs.Weights.{weights}
 use Rattle.rows.specs.Page.{firstRecord}
 use Rattle.rows.proofs.Loaded.{loaded-lt, loaded-cells, loaded-sparse}
 use Rattle.rows.proofs.Scanning.{all-passed}
-use Rattle.rows.proofs.Records.{Reading, reading-start, reading-turn}
+use Rattle.rows.proofs.first_round.read_words.Proof.Turns.{Reading, reading-start, reading-turn}
 use Rattle.rows.proofs.first_round.read_words.Statement.{statement}
 use Rattle.rows.proofs.first_round.read_words.Tie as tie
 

@@ -1,4 +1,5 @@
--- `first_round::write_words` meets its contract: before word i the words before it are in. Assumes nothing.
+-- `rows::first_round::write_words` meets its contract: before word i the words before it are in. Assumes nothing.
+mod Turns
 use mathlib.Core.Path.{_≡_, refl, ap, _∙_}
 use Prim.Native.Nat.{ℕ, _+_, _*_, _≤_, _-_}
 use native.Mathlib.Omega.{arith}
@@ -9,7 +10,7 @@ use Rattle.word.specs.Weights.{weights}
 use Rattle.word.proofs.Sums.{word-lt}
 use Rattle.rows.specs.Page.{firstWords}
 use Rattle.rows.proofs.FirstRecord.{value-le}
-use Rattle.rows.proofs.Records.{Writing, writing-start, writing-turn}
+use Rattle.rows.proofs.first_round.write_words.Proof.Turns.{Writing, writing-start, writing-turn}
 use Rattle.rows.proofs.first_round.write_words.Statement.{statement}
 use Rattle.rows.proofs.first_round.write_words.Tie as tie
 

@@ -1,5 +1,6 @@
--- `second_round::gather` meets its contract: before word i the words before it are well formed, and their bits are in the buffer.
+-- `rows::second_round::gather` meets its contract: before word i the words before it are well formed, and their bits are in the buffer.
 -- Assumes nothing.
+mod Turns
 use mathlib.Core.Path.{_≡_, refl, sym, ap, _∙_, subst}
 use Prim.Native.Nat.{_+_, _≤_, _-_}
 use native.Mathlib.Omega.{arith}
@@ -9,7 +10,7 @@ use Rattle.window.specs.Words.{wordAt}
 use Rattle.word.specs.Fill.{wellFormed}
 use Rattle.rows.proofs.Loaded.{loaded-lt, loaded-cells}
 use Rattle.rows.proofs.Scanning.{Passed, scan-failed, scan-passed}
-use Rattle.rows.proofs.Gathering.{Separated, separated, read-fits, Gathering, gathering-start, gathering-length, gathering-turn}
+use Rattle.rows.proofs.second_round.gather.Proof.Turns.{Separated, separated, read-fits, Gathering, gathering-start, gathering-length, gathering-turn}
 use Rattle.rows.proofs.second_round.gather.Statement.{statement}
 use Rattle.rows.proofs.second_round.gather.Tie as tie
 

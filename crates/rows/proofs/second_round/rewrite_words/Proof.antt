@@ -1,5 +1,6 @@
--- `second_round::rewrite_words` meets its contract: before word i the words before it are done, and the record's bits before bit `at` are
+-- `rows::second_round::rewrite_words` meets its contract: before word i the words before it are done, and the record's bits before bit `at` are
 -- in. Assumes nothing.
+mod Turns
 use mathlib.Core.Path.{_≡_, refl, ap, _∙_}
 use Prim.Native.Nat.{ℕ, _+_, _≤_, _-_}
 use native.Mathlib.Omega.{arith}
@@ -11,7 +12,7 @@ use Rattle.word.specs.Word.{legal}
 use Rattle.rows.specs.Page.{fillAll, putAll}
 use Rattle.rows.proofs.Loaded.{FilledWord, loaded-lt}
 use Rattle.rows.proofs.Scanning.{all-passed}
-use Rattle.rows.proofs.Rewriting.{Rewriting, rewriting-start, put-small, rewriting-filled, rewriting-turn}
+use Rattle.rows.proofs.second_round.rewrite_words.Proof.Turns.{Rewriting, rewriting-start, put-small, rewriting-filled, rewriting-turn}
 use Rattle.rows.proofs.second_round.rewrite_words.Statement.{statement}
 use Rattle.rows.proofs.second_round.rewrite_words.Tie as tie
 

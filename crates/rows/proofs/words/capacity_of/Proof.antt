@@ -1,4 +1,4 @@
--- `words::capacity_of` meets its contract: the total so far is the capacity of the words before word i. Assumes nothing.
+-- `rows::words::capacity_of` meets its contract: the total so far is the capacity of the words before word i. Assumes nothing.
 use mathlib.Core.Path.{_≡_, ap, _∙_}
 use Prim.Native.Nat.{ℕ, _+_, _≤_, _-_}
 use native.Mathlib.Omega.{arith}

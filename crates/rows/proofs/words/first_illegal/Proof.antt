@@ -1,4 +1,4 @@
--- `words::first_illegal` meets its contract: the words before word i are legal. Assumes nothing.
+-- `rows::words::first_illegal` meets its contract: the words before word i are legal. Assumes nothing.
 use mathlib.Core.Path.{_≡_, sym, _∙_, subst}
 use Prim.Native.Nat.{_≤_, _-_}
 use native.Mathlib.Omega.{arith}

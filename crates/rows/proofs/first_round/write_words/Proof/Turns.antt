@@ -1,25 +1,21 @@
--- The first record written and read word after word. Assumes nothing.
+-- The first record written word after word: what holds before word i, and a turn for it. Assumes nothing.
 use mathlib.Core.Bool.{Bool}
-use mathlib.Core.List.{List, [], _∷_, _++_, append-assoc, append-nil}
+use mathlib.Core.List.{List, [], _∷_, _++_}
 use mathlib.Core.Path.{_≡_, refl, sym, ap, ap₂, _∙_}
 use Prim.Native.Nat.{ℕ, zero, suc, _+_, _*_, _≤_}
 use native.Mathlib.Numerals.{add-one}
 use native.Mathlib.Omega.{arith}
 use lib.ListN.{length, take, drop}
-use lib.Seq.{drop-drop, paste}
+use lib.Seq.{drop-drop}
 use Rattle.cells.specs.Cells.{number, cells}
-use Rattle.cells.specs.Bytes.{bits, bytes, Bytes, atStart}
-use Rattle.cells.proofs.Copying.{atStart-more}
+use Rattle.cells.specs.Bytes.{bits, Bytes}
 use Rattle.cells.proofs.Numbers.{cells-of}
-use Rattle.cells.proofs.Bytes.{length-bytes}
-use Rattle.window.specs.Words.{start, pieces, wordAt, pageWords, putWord, putWords}
-use Rattle.window.proofs.Words.{putWords-none, putWords-more, length-pageWords, pageWords-more}
-use Rattle.word.specs.Word.{sum, zeckendorf}
+use Rattle.window.specs.Words.{start, putWord, putWords}
+use Rattle.window.proofs.Words.{putWords-none, putWords-more}
+use Rattle.word.specs.Word.{zeckendorf}
 use Rattle.word.proofs.Sums.{length-zeckendorf}
-use Rattle.rows.specs.Page.{firstWords, firstRecord}
-use Rattle.rows.proofs.FirstRecord.{length-firstWords, Words-firstWords, length-firstRecord}
-
--- ---- one more word
+use Rattle.rows.specs.Page.{firstWords}
+use Rattle.rows.proofs.FirstRecord.{length-firstWords, Words-firstWords}
 
 words-suc : (i : ℕ) (bs : List ℕ) → firstWords (suc i) bs ≡ firstWords i bs ++ (zeckendorf 46 (number (bits (take 4 (drop (4 * i) bs)))) ∷ [])
 unfolding firstWords
@@ -32,15 +28,6 @@ words-suc (suc i) bs =
 
 firstWords-more : (i : ℕ) (bs : List ℕ) → firstWords (i + 1) bs ≡ firstWords i bs ++ (zeckendorf 46 (number (bits (take 4 (drop (4 * i) bs)))) ∷ [])
 firstWords-more i bs = ap (λ (n : ℕ). firstWords n bs) (add-one i) ∙ words-suc i bs
-
-firstRecord-more : (ws : List (List Bool)) (w : List Bool) → firstRecord (ws ++ (w ∷ [])) ≡ firstRecord ws ++ bytes 4 (cells 32 (sum w))
-unfolding firstRecord
-firstRecord-more [] w = append-nil (bytes 4 (cells 32 (sum w)))
-firstRecord-more (v ∷ ws) w =
-    ap (λ (r : List ℕ). bytes 4 (cells 32 (sum v)) ++ r) (firstRecord-more ws w)
-    ∙ sym (append-assoc (bytes 4 (cells 32 (sum v))) (firstRecord ws) (bytes 4 (cells 32 (sum w))))
-
--- ---- writing
 
 -- before word i, the words before it are those of the record
 abbrev pub Writing : List ℕ → List ℕ → List ℕ → ℕ → Type 0
@@ -61,26 +48,3 @@ writing-turn page₀ bs page next i x v h r ex ev en =
     ∙ ap (λ (k : ℕ). putWord (putWords page₀ ws) k w) (sym l)
     ∙ putWords-more page₀ ws w (Words-firstWords i bs) (length-zeckendorf 46 _) (omega (arith, l))
     ∙ ap (putWords page₀) (sym (firstWords-more i bs))
-
--- ---- reading
-
-abbrev pub Reading : List ℕ → List ℕ → List ℕ → ℕ → Type 0
-Reading page out₀ out i = out ≡ atStart (firstRecord (pageWords page i)) out₀
-
-pub reading-start : (page out₀ : List ℕ) → Reading page out₀ out₀ 0
-unfolding atStart firstRecord pageWords pieces
-reading-start page out₀ = refl
-
-pub reading-turn : (page out₀ out next : List ℕ) (i w v : ℕ) → Reading page out₀ out i → cells 46 w ≡ wordAt page i → v ≡ sum (cells 46 w)
-    → next ≡ paste out (4 * i) (bytes 4 (cells 32 v)) 4 → Reading page out₀ next (i + 1)
-reading-turn page out₀ out next i w v r ew ev en =
-    let a = firstRecord (pageWords page i) in
-    let s = bytes 4 (cells 32 v) in
-    let la : 4 * i ≡ length a = omega (arith, length-firstRecord (pageWords page i), length-pageWords page i) in
-    let ls : 4 ≡ length s = sym (length-bytes 4 (cells 32 v)) in
-    en ∙ ap₂ (λ (o : List ℕ) (k : ℕ). paste o k s 4) r la
-    ∙ ap (λ (n : ℕ). paste (atStart a out₀) (length a) s n) ls
-    ∙ atStart-more a s out₀
-    ∙ ap (λ (x : List ℕ). atStart x out₀)
-    (ap (λ (y : ℕ). a ++ bytes 4 (cells 32 y)) (ev ∙ ap sum ew) ∙ sym (firstRecord-more (pageWords page i) (wordAt page i))
-    ∙ ap firstRecord (sym (pageWords-more page i)))

@@ -19,7 +19,7 @@ use Rattle.page.specs.Terms.{SecondHeaderOf, AllPassOf, secondBitsOf}
 use Rattle.page.proofs.Headed.{all-words, no-bad-word}
 use Rattle.second.specs.Answer.{readSecondAnswer}
 use Rattle.second.proofs.SecondAnswers.{read-second, read-second-3, read-second-9}
-use Rattle.second.proofs.Buffers.{buffer-spare, buffer-record, read-most}
+use Rattle.second.proofs.read_second.Proof.Buffers.{buffer-spare, buffer-record, read-most}
 
 -- all words are well formed, and their bits, n of them, are in the buffer
 pub record Found (P buffer : List ℕ) (n : ℕ) : Type 0 where

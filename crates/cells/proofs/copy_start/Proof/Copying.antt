@@ -1,23 +1,14 @@
 -- Bytes copied to the start of an output, up to four at a time. Assumes nothing.
 use mathlib.Core.List.{List, _++_}
-use mathlib.Core.Path.{_≡_, sym, ap, ap₂, _∙_, refl}
+use mathlib.Core.Path.{_≡_, sym, ap, ap₂, _∙_}
 use Prim.Native.Nat.{ℕ, _+_, _-_, _*_, _/_, _^_, _≤_}
 use native.Mathlib.Omega.{arith}
-use lib.ListN.{length, take, drop, length-drop, length-append}
-use lib.Seq.{length-take-le, take-take, take-add, paste, drop-drop, take-at, take-all, drop-append-add}
+use lib.ListN.{length, take, drop, length-drop}
+use lib.Seq.{length-take-le, take-take, take-add, paste}
 use Rattle.cells.specs.Cells.{number, cells}
 use Rattle.cells.specs.Bytes.{bits, bytes, Bytes, atStart}
+use Rattle.cells.proofs.Bytes.{atStart-more, length-bits, take-bits, bytes-bits, Bytes-take, Bytes-drop}
 use Rattle.cells.proofs.Numbers.{cells-of, cells-part}
-use Rattle.cells.proofs.Bytes.{length-bits, take-bits, bytes-bits, Bytes-take, Bytes-drop}
-
--- more bytes put right after those at the start of an output
-pub atStart-more : (a s out : List ℕ) → paste (atStart a out) (length a) s (length s) ≡ atStart (a ++ s) out
-unfolding atStart
-atStart-more a s out =
-    let k : length a + length s ≡ length (a ++ s) = sym (length-append a s) in
-    ap₂ (λ (x y : List ℕ). (x ++ take (length s) s) ++ y) (take-at a (drop (length a) out) (length a) refl)
-    (drop-append-add a (drop (length a) out) (length s) ∙ drop-drop (length s) (length a) out ∙ ap (λ (n : ℕ). drop n out) k)
-    ∙ ap (λ (x : List ℕ). (a ++ x) ++ drop (length (a ++ s)) out) (take-all (length s) s (omega arith))
 
 -- the first r of four bytes, from the number that they write
 part : (s : List ℕ) (r : ℕ) → Bytes s → length s ≡ 4 → r ≤ 4 → bytes r (cells (8 * r) (number (bits s) / 2 ^ (8 * (4 - r)))) ≡ take r s
