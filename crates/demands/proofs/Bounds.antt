@@ -15,13 +15,13 @@ use Rattle.word.specs.Word.{sparse, legal}
 use Rattle.word.specs.Fill.{capacity}
 use Rattle.word.specs.Claims.{Legal}
 use Rattle.word.proofs.Claims.{capacity-bounds}
-use Rattle.rows.specs.Page.{page256, fillAll, capacityAll}
-use Rattle.rows.proofs.EachWord.{Each, each-sparse, each-word, each-replicate, row-page, row-replicate}
+use Rattle.rows.specs.Page.{Shape, page256, FirstRoundOf, fillAll, capacityAll}
+use Rattle.rows.proofs.EachWord.{Each, each-sparse, each-word, each-replicate, row-replicate}
 use Rattle.rows.proofs.Capacities.{capacity-bounds-all}
 use Rattle.page.specs.Answer.{pageCapacityAnswer}
 use Rattle.page.proofs.FirstAnswers.{check-taken}
 use Rattle.demands.specs.Demands.{FirstRound, Fits, dataCellsAll, dataCells}
-use Rattle.demands.proofs.Laid.{laid, sound256, laid-words, laid-first}
+use Rattle.demands.proofs.Laid.{laid, Sound, sound256, laid-row, laid-words, laid-first}
 
 -- of words without neighbours
 capacity-dataCells : (ws : List (List Bool)) → Each sparse ws → capacityAll ws ≡ dataCellsAll (fillAll ws)
@@ -29,19 +29,33 @@ unfolding capacityAll dataCellsAll fillAll
 capacity-dataCells [] h = refl
 capacity-dataCells (w ∷ ws) h = ap₂ (λ (a b : ℕ). a + b) (capacity-bounds .counts w (h .0)) (capacity-dataCells ws (h .1))
 
+-- of a first-round page of any shape
+module _ {σ : Shape} (P : List ℕ) (f : FirstRoundOf σ P) where
+  abbrev words : List (List Bool)
+  words = pageWords P (σ .words)
+
+  legal-words : Each legal words
+  legal-words = each-word legal P (σ .words) (f .words-legal)
+
+  pub capacity-of : capacityAll words ≡ dataCellsAll (fillAll words)
+  capacity-of = capacity-dataCells words (each-sparse words legal-words)
+
+  pub bounds-of : Sound σ → (15 * σ .words ≤ dataCellsAll (fillAll words)) × (dataCellsAll (fillAll words) ≤ 23 * σ .words)
+  bounds-of s =
+      let r = laid-row s P (f .sized) in
+      omega (arith, r .0, capacity-of, capacity-bounds-all words (r .1) legal-words)
+
+-- ---- document 01's page
+
 pub capacity-is : (P : List ℕ) → FirstRound P → capacityAll (pageWords P 44) ≡ dataCells P
-capacity-is P f = capacity-dataCells (pageWords P 44) (each-sparse (pageWords P 44) (each-word legal P 44 (f .words-legal)))
+capacity-is P f = capacity-of P f
 
 pub capacity-counts : (P : List ℕ) → FirstRound P → pageCapacityAnswer P ≡ result (dataCells P)
 capacity-counts P f = check-taken page256 P _ (dataCells P) (f .of-bytes) .1 (f, sym (capacity-is P f))
 
--- ---- from 660 to 1,012
-
+-- from 660 to 1,012
 pub bounds : (P : List ℕ) → FirstRound P → (660 ≤ dataCells P) × (dataCells P ≤ 1012)
-bounds P f =
-    let ws = pageWords P 44 in
-    let r = row-page P 44 (omega arith) in
-    omega (arith, r .0, capacity-is P f, capacity-bounds-all ws (r .1) (each-word legal P 44 (f .words-legal)))
+bounds P f = bounds-of P f sound256
 
 -- one word, n times
 pub capacity-replicate : (n : ℕ) (w : List Bool) → capacityAll (replicate n w) ≡ n * capacity w
