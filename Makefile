@@ -1,4 +1,4 @@
-.PHONY: test demo archive bench figure differential vectors clauses
+.PHONY: test demo archive bench figure damage digests annex differential vectors clauses
 
 CC99 = gcc -std=c99 -Wall -Wextra -Werror -pedantic -O2 -I include
 SECOND = CARGO_TARGET_DIR=target/second cargo run --quiet --release --offline --manifest-path tests/second/Cargo.toml --bin
@@ -34,6 +34,20 @@ figure: archive
 	$(CC99) -o target/demo/word_stages examples/word_stages.c target/staticlib/libwom.a
 	target/demo/word_stages >target/demo/word-stages.svg
 	cp target/demo/word-stages.svg docs/word-stages.svg
+
+# The annex's figures of damage: every single cell of 100 pages changed, and what the readers make of it.
+damage: archive
+	@mkdir -p target/demo
+	$(CC99) -o target/demo/damage tests/damage.c target/staticlib/libwom.a
+	@target/demo/damage
+
+# The annex's kit and digests, renewed. The archive must be the one that this commit's source gives.
+digests: archive
+	tests/digests renew
+
+# The annex for print, target/annex.pdf. Debian packages: cmark-gfm weasyprint fonts-dejavu-core
+annex:
+	docs/print target/annex.pdf
 
 # A longer comparison with the independent program: make differential SEED=7 CASES=20000000
 SEED = 2
