@@ -25,9 +25,6 @@
 
 #include "wom.h"
 
-#define WORDS 44
-#define CELLS 46       /* of a word */
-#define HEADER_BYTES 3 /* before word 0 */
 #define PIECE_BYTES 100
 
 /* ---- The counters ------------------------------------------------------ */
@@ -98,7 +95,7 @@ static unsigned set_beyond(const uint8_t *page, const uint8_t *other)
 /* A cell's number in the page, counted from the highest bit of byte 0. */
 static int place(int word, int cell)
 {
-    return 8 * HEADER_BYTES + CELLS * word + cell;
+    return 8 * WOM_HEADER_BYTES + WOM_WORD_CELLS * word + cell;
 }
 
 static int is_set(const uint8_t *page, int word, int cell)
@@ -148,8 +145,9 @@ static int accepted(const char *call, uint64_t answer)
 {
     if (wom_refusal(answer) == 0)
         return 1;
-    fprintf(stderr, "logger: %s: refused %u, index %" PRIu64 "\n", call,
-            wom_refusal(answer), wom_index(answer));
+    fprintf(stderr, "logger: %s: refused %u (%s), index %" PRIu64 "\n", call,
+            wom_refusal(answer), wom_refusal_name(wom_refusal(answer)),
+            wom_index(answer));
     return 0;
 }
 
@@ -184,7 +182,8 @@ static int write_first_record(void)
     printf("1  The first record, %d counters of %d lifts, %d bytes, is written "
            "on the blank page.\n"
            "   wom_write_first accepts; one program operation sets %u cells.\n",
-           WORDS, LIFTS, WOM_FIRST_BYTES, set_beyond(first_page, blank_page));
+           WOM_WORDS, LIFTS, WOM_FIRST_BYTES,
+           set_beyond(first_page, blank_page));
     return 1;
 }
 
@@ -228,7 +227,7 @@ static int try_too_long(uint64_t capacity)
 
     memcpy(second_page, part.cells, sizeof second_page);
     answer = wom_rewrite(second_page, sizeof second_page, record, length);
-    if (wom_refusal(answer) != WOM_RECORD_LENGTH ||
+    if (wom_refusal(answer) != WOM_REFUSED_RECORD_LENGTH ||
         wom_index(answer) != capacity) {
         fprintf(stderr, "logger: wom_rewrite: number %u, index %" PRIu64
                         ", expected number 8, index %" PRIu64 "\n",
@@ -248,7 +247,7 @@ static int try_too_long(uint64_t capacity)
 /* Clears one cell that is set in the part. */
 static void clear_a_set_cell(uint8_t *page)
 {
-    int i = HEADER_BYTES;
+    int i = WOM_HEADER_BYTES;
 
     while (part.cells[i] == 0)
         i++;
@@ -331,10 +330,10 @@ static char mark(int word, int cell)
 
 static void print_word(int word)
 {
-    char map[CELLS + 1] = {0};
+    char map[WOM_WORD_CELLS + 1] = {0};
     int c;
 
-    for (c = 0; c < CELLS; c++)
+    for (c = 0; c < WOM_WORD_CELLS; c++)
         map[c] = mark(word, c);
     printf("%4d  lift %2d %-11s %11" PRIu32 "  %s\n", word,
            word / COUNTERS + 1, counter_names[word % COUNTERS], counter(word),
@@ -349,7 +348,7 @@ static void print_words(void)
            "+ newly set by the second\n\n"
            "word  counter             first value  "
            "0    5    10   15   20   25   30   35   40   45\n");
-    for (word = 0; word < WORDS; word++)
+    for (word = 0; word < WOM_WORDS; word++)
         print_word(word);
 }
 
@@ -389,9 +388,9 @@ static void damage_second(uint8_t *page)
     int cell = 0;
 
     memcpy(page, second_page, WOM_PAGE_BYTES);
-    while (!is_set(page, WORDS - 1, cell))
+    while (!is_set(page, WOM_WORDS - 1, cell))
         cell++;
-    set(page, WORDS - 1, cell + 1);
+    set(page, WOM_WORDS - 1, cell + 1);
 }
 
 static int put_pages(FILE *file)

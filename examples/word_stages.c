@@ -19,9 +19,6 @@
 
 #include "wom.h"
 
-#define CELLS 46       /* of a word */
-#define HEADER_BYTES 3 /* before word 0 */
-
 /* Its set cells are 2, 4, 7, 11, 16, 22, 29 and 37: between them lie 1, 2, 3 up
  * to 7 cells that are not set, and 8 after the last. */
 #define VALUE 1687086047u
@@ -41,7 +38,7 @@ struct stages {
 
 static int is_set(uint64_t word, int cell)
 {
-    return (int)(word >> (CELLS - 1 - cell) & 1);
+    return (int)(word >> (WOM_WORD_CELLS - 1 - cell) & 1);
 }
 
 /* A data cell is the cell right after a separator. */
@@ -62,8 +59,8 @@ static uint64_t word_0(const uint8_t *page)
     uint64_t word = 0;
     unsigned c;
 
-    for (c = 0; c < CELLS; c++)
-        word = word << 1 | (uint64_t)bit(page + HEADER_BYTES, c);
+    for (c = 0; c < WOM_WORD_CELLS; c++)
+        word = word << 1 | (uint64_t)bit(page + WOM_HEADER_BYTES, c);
     return word;
 }
 
@@ -90,8 +87,10 @@ static int take_first(struct stages *stages, const uint8_t *page)
     stages->first = word_0(page);
     value = wom_decode_word(stages->first);
     capacity = wom_word_capacity(stages->first);
+    if (!accepted(value) || !accepted(capacity))
+        return 0;
     stages->capacity = (unsigned)wom_result(capacity);
-    return accepted(value) && wom_result(value) == VALUE && accepted(capacity);
+    return wom_result(value) == VALUE;
 }
 
 /* The word's own fill, which is also what a page's rewrite with no record
@@ -102,10 +101,10 @@ static int take_filled(struct stages *stages, const uint8_t *first_page)
     uint8_t page[WOM_PAGE_BYTES];
 
     memcpy(page, first_page, sizeof page);
+    if (!accepted(filled) || !accepted(wom_rewrite(page, sizeof page, NULL, 0)))
+        return 0;
     stages->filled = wom_result(filled);
-    return accepted(filled) &&
-           accepted(wom_rewrite(page, sizeof page, NULL, 0)) &&
-           word_0(page) == stages->filled;
+    return word_0(page) == stages->filled;
 }
 
 static int take_second(struct stages *stages, const uint8_t *first_page)
@@ -139,7 +138,7 @@ static int bits_agree(const struct stages *stages)
     int agree = 1;
     int c;
 
-    for (c = 0; c < CELLS && taken < 8 * sizeof record; c++)
+    for (c = 0; c < WOM_WORD_CELLS && taken < 8 * sizeof record; c++)
         if (is_data(stages, c)) {
             agree &= is_set(stages->second, c) == bit(record, taken) &&
                      bit(stages->read, taken) == bit(record, taken);
@@ -244,7 +243,7 @@ static void draw_numbers(void)
 {
     int c;
 
-    for (c = 0; c < CELLS; c += 5)
+    for (c = 0; c < WOM_WORD_CELLS; c += 5)
         printf("<text x=\"%d\" y=\"%d\">%d</text>\n", left_of(c) + BOX / 2,
                NUMBERS_Y, c);
 }
@@ -253,7 +252,7 @@ static void draw_word(const struct stages *stages, uint64_t word, int row)
 {
     int c;
 
-    for (c = 0; c < CELLS; c++)
+    for (c = 0; c < WOM_WORD_CELLS; c++)
         draw_cell(stages, word, c, row_y(row));
 }
 
@@ -262,7 +261,7 @@ static void draw_second(const struct stages *stages, int row)
 {
     int c;
 
-    for (c = 0; c < CELLS; c++)
+    for (c = 0; c < WOM_WORD_CELLS; c++)
         if (is_data(stages, c))
             draw_bit(left_of(c), row_y(row), is_set(stages->second, c));
         else
@@ -275,7 +274,7 @@ static void draw_read(const struct stages *stages, int row)
     unsigned taken = 0;
     int c;
 
-    for (c = 0; c < CELLS; c++)
+    for (c = 0; c < WOM_WORD_CELLS; c++)
         if (is_data(stages, c))
             draw_bit(left_of(c), row_y(row), bit(stages->read, taken++));
         else if (is_set(stages->second, c))

@@ -74,6 +74,10 @@
 #include <stddef.h>
 #include <stdint.h>
 
+/* 10000 times the major number, 100 times the minor one, and the patch. */
+#define WOM_VERSION        10000
+#define WOM_VERSION_STRING "1.0.0"
+
 #ifdef __cplusplus
 extern "C" {
 #endif
@@ -112,23 +116,63 @@ static inline uint64_t wom_index(uint64_t answer)
 
 /* A page function refuses with the first of these that applies, in the order
  * in which the function lists them. */
-#define WOM_PAGE_LENGTH   1 /* the page is not 256 bytes */
-#define WOM_DATA_LENGTH   2 /* the first record is not 176 bytes */
-#define WOM_OUTPUT_LENGTH 3 /* the output is shorter than the record */
-#define WOM_NOT_BLANK     4 /* a byte of the page is not 0 */
-#define WOM_STATE         5 /* the page is not in the state asked for */
-#define WOM_HEADER        6 /* byte 1 or byte 2 is out of its range */
-#define WOM_WORD          7 /* a word is not legal, or not well formed;
-                               index: the lowest such word, 0 to 43 */
-#define WOM_RECORD_LENGTH 8 /* the second record does not fit;
-                               index: the page's capacity in bits */
-#define WOM_DATA_CELLS    9 /* the data cells are too few for byte 1, or a
-                               spare data cell is set */
+#define WOM_REFUSED_PAGE_LENGTH   1 /* the page is not 256 bytes */
+#define WOM_REFUSED_DATA_LENGTH   2 /* the first record is not 176 bytes */
+#define WOM_REFUSED_OUTPUT_LENGTH 3 /* the output is shorter than the record */
+#define WOM_REFUSED_NOT_BLANK     4 /* a byte of the page is not 0 */
+#define WOM_REFUSED_STATE         5 /* the page is not in the state asked for */
+#define WOM_REFUSED_HEADER        6 /* byte 1 or byte 2 is out of its range */
+#define WOM_REFUSED_WORD          7 /* a word is not legal, or not well formed;
+                                       index: the lowest such word, 0 to 43 */
+#define WOM_REFUSED_RECORD_LENGTH 8 /* the second record does not fit;
+                                       index: the page's capacity in bits */
+#define WOM_REFUSED_DATA_CELLS    9 /* the data cells are too few for byte 1, or
+                                       a spare data cell is set */
 
 /* A word is refused with the first of these that applies. */
-#define WOM_HIGH_BIT   10 /* a bit above cell 0 is set */
-#define WOM_NEIGHBOURS 11 /* two neighbouring cells are set */
-#define WOM_SUM        12 /* the sum of the set weights exceeds 4294967295 */
+#define WOM_REFUSED_HIGH_BIT   10 /* a bit above cell 0 is set */
+#define WOM_REFUSED_NEIGHBOURS 11 /* two neighbouring cells are set */
+#define WOM_REFUSED_SUM        12 /* the sum of the set weights exceeds
+                                     4294967295 */
+
+/*! wom_refusal_name() :
+ *  Takes a refusal's number, as wom_refusal() gives it; any number may be
+ *  passed.
+ * @return : a short text for a message, such as "page length"; "no refusal" for
+ *           0, "unknown refusal" for a number above 12. */
+static inline const char *wom_refusal_name(unsigned number)
+{
+    switch (number) {
+    case 0:
+        return "no refusal";
+    case WOM_REFUSED_PAGE_LENGTH:
+        return "page length";
+    case WOM_REFUSED_DATA_LENGTH:
+        return "data length";
+    case WOM_REFUSED_OUTPUT_LENGTH:
+        return "output length";
+    case WOM_REFUSED_NOT_BLANK:
+        return "not blank";
+    case WOM_REFUSED_STATE:
+        return "state";
+    case WOM_REFUSED_HEADER:
+        return "header";
+    case WOM_REFUSED_WORD:
+        return "word";
+    case WOM_REFUSED_RECORD_LENGTH:
+        return "record length";
+    case WOM_REFUSED_DATA_CELLS:
+        return "data cells";
+    case WOM_REFUSED_HIGH_BIT:
+        return "high bit";
+    case WOM_REFUSED_NEIGHBOURS:
+        return "neighbours";
+    case WOM_REFUSED_SUM:
+        return "sum";
+    default:
+        return "unknown refusal";
+    }
+}
 
 /* ------------------------------------------------------------------------
  *  Words
@@ -136,6 +180,8 @@ static inline uint64_t wom_index(uint64_t answer)
  *  These functions are defined for every argument value: they have no
  *  precondition, and they touch no memory of the caller's.
  * ------------------------------------------------------------------------ */
+
+#define WOM_WORD_CELLS 46 /* the cells of a word */
 
 /*! wom_encode_word() :
  *  Encodes a value as a word of the first round.
@@ -149,10 +195,10 @@ uint64_t wom_encode_word(uint32_t value);
  *    word : the word, not filled; any 64-bit value may be passed.
  * @return : the value of the legal word, 0 to 4294967295;
  *           or a refusal with index 0, the first of these that applies:
- *             10 (WOM_HIGH_BIT)   if a bit above cell 0 is set,
- *             11 (WOM_NEIGHBOURS) if two neighbouring cells are set,
- *             12 (WOM_SUM)        if the sum of the set weights exceeds
- *                                 4294967295. */
+ *             10 (WOM_REFUSED_HIGH_BIT)   if a bit above cell 0 is set,
+ *             11 (WOM_REFUSED_NEIGHBOURS) if two neighbouring cells are set,
+ *             12 (WOM_REFUSED_SUM)        if the sum of the set weights
+ *                                         exceeds 4294967295. */
 uint64_t wom_decode_word(uint64_t word);
 
 /*! wom_fill_word() :
@@ -161,10 +207,10 @@ uint64_t wom_decode_word(uint64_t word);
  * @return : the filled word, in bits 0 to 45: every set cell of 'word', and the
  *           cells set by the fill;
  *           or a refusal with index 0, the first of these that applies:
- *             10 (WOM_HIGH_BIT)   if a bit above cell 0 is set,
- *             11 (WOM_NEIGHBOURS) if two neighbouring cells are set,
- *             12 (WOM_SUM)        if the sum of the set weights exceeds
- *                                 4294967295.
+ *             10 (WOM_REFUSED_HIGH_BIT)   if a bit above cell 0 is set,
+ *             11 (WOM_REFUSED_NEIGHBOURS) if two neighbouring cells are set,
+ *             12 (WOM_REFUSED_SUM)        if the sum of the set weights exceeds
+ *                                         4294967295.
  *  Note : a filled word need not be legal. The word of value 0 is filled to
  *         every even cell, which each function that takes a word refuses
  *         with 12. */
@@ -176,10 +222,10 @@ uint64_t wom_fill_word(uint64_t word);
  *    word : the word, not filled; any 64-bit value may be passed.
  * @return : the number of data cells of the filled word, 15 to 23;
  *           or a refusal with index 0, the first of these that applies:
- *             10 (WOM_HIGH_BIT)   if a bit above cell 0 is set,
- *             11 (WOM_NEIGHBOURS) if two neighbouring cells are set,
- *             12 (WOM_SUM)        if the sum of the set weights exceeds
- *                                 4294967295. */
+ *             10 (WOM_REFUSED_HIGH_BIT)   if a bit above cell 0 is set,
+ *             11 (WOM_REFUSED_NEIGHBOURS) if two neighbouring cells are set,
+ *             12 (WOM_REFUSED_SUM)        if the sum of the set weights
+ *                                         exceeds 4294967295. */
 uint64_t wom_word_capacity(uint64_t word);
 
 /* ------------------------------------------------------------------------
@@ -203,11 +249,18 @@ uint64_t wom_word_capacity(uint64_t word);
  * ------------------------------------------------------------------------ */
 
 #define WOM_PAGE_BYTES        256 /* a page */
+#define WOM_HEADER_BYTES        3 /* its bytes before word 0 */
+#define WOM_WORDS              44 /* its words */
 #define WOM_FIRST_BYTES       176 /* the first record */
 #define WOM_SECOND_BYTES_MAX  126 /* the longest second record that fits some
                                      first-round page */
 #define WOM_SECOND_BYTES_SURE  82 /* every second record of up to this length
                                      fits every first-round page */
+
+/* The state, byte 0 of a page. */
+#define WOM_STATE_BLANK  0x00
+#define WOM_STATE_FIRST  0x01 /* first round */
+#define WOM_STATE_SECOND 0x07 /* second round */
 
 /*! wom_write_first() :
  *  Writes the first record on a blank page.
@@ -217,9 +270,9 @@ uint64_t wom_word_capacity(uint64_t word);
  *    data : the first record, 176 bytes.
  * @return : 0;
  *           or a refusal with index 0, the first of these that applies:
- *             1 (WOM_PAGE_LENGTH) if the page is not 256 bytes,
- *             2 (WOM_DATA_LENGTH) if the data is not 176 bytes,
- *             4 (WOM_NOT_BLANK)   if any byte of the page is not 0. */
+ *             1 (WOM_REFUSED_PAGE_LENGTH) if the page is not 256 bytes,
+ *             2 (WOM_REFUSED_DATA_LENGTH) if the data is not 176 bytes,
+ *             4 (WOM_REFUSED_NOT_BLANK)   if any byte of the page is not 0. */
 uint64_t wom_write_first(uint8_t *page, size_t page_length,
                          const uint8_t *data, size_t data_length);
 
@@ -230,12 +283,13 @@ uint64_t wom_write_first(uint8_t *page, size_t page_length,
  *           are left as they are. What it held before does not matter.
  * @return : 0;
  *           or a refusal, the first of these that applies:
- *             1 (WOM_PAGE_LENGTH)   if the page is not 256 bytes,
- *             5 (WOM_STATE)         if the state is not 0x01,
- *             6 (WOM_HEADER)        if byte 1 or byte 2 is not 0,
- *             7 (WOM_WORD)          if a word is not legal; its index is the
- *                                   lowest such word, 0 to 43,
- *             3 (WOM_OUTPUT_LENGTH) if the output is shorter than 176 bytes.
+ *             1 (WOM_REFUSED_PAGE_LENGTH)   if the page is not 256 bytes,
+ *             5 (WOM_REFUSED_STATE)         if the state is not 0x01,
+ *             6 (WOM_REFUSED_HEADER)        if byte 1 or byte 2 is not 0,
+ *             7 (WOM_REFUSED_WORD)          if a word is not legal; its index
+ *                                           is the lowest such word, 0 to 43,
+ *             3 (WOM_REFUSED_OUTPUT_LENGTH) if the output is shorter than 176
+ *                                           bytes.
  *           The index is 0 but for 7. */
 uint64_t wom_read_first(const uint8_t *page, size_t page_length,
                         uint8_t *out, size_t out_length);
@@ -246,11 +300,11 @@ uint64_t wom_read_first(const uint8_t *page, size_t page_length,
  * @return : the page's capacity in bits, 660 to 1012; the longest record that
  *           fits has an eighth of that in bytes, rounded down;
  *           or a refusal, the first of these that applies:
- *             1 (WOM_PAGE_LENGTH) if the page is not 256 bytes,
- *             5 (WOM_STATE)       if the state is not 0x01,
- *             6 (WOM_HEADER)      if byte 1 or byte 2 is not 0,
- *             7 (WOM_WORD)        if a word is not legal; its index is the
- *                                 lowest such word, 0 to 43.
+ *             1 (WOM_REFUSED_PAGE_LENGTH) if the page is not 256 bytes,
+ *             5 (WOM_REFUSED_STATE)       if the state is not 0x01,
+ *             6 (WOM_REFUSED_HEADER)      if byte 1 or byte 2 is not 0,
+ *             7 (WOM_REFUSED_WORD)        if a word is not legal; its index is
+ *                                         the lowest such word, 0 to 43.
  *           The index is 0 but for 7. */
 uint64_t wom_page_capacity(const uint8_t *page, size_t page_length);
 
@@ -264,14 +318,14 @@ uint64_t wom_page_capacity(const uint8_t *page, size_t page_length);
  *    record : the second record, of any length.
  * @return : 0;
  *           or a refusal, the first of these that applies:
- *             1 (WOM_PAGE_LENGTH)   if the page is not 256 bytes,
- *             5 (WOM_STATE)         if the state is not 0x01,
- *             6 (WOM_HEADER)        if byte 1 or byte 2 is not 0,
- *             7 (WOM_WORD)          if a word is not legal; its index is the
- *                                   lowest such word, 0 to 43,
- *             8 (WOM_RECORD_LENGTH) if 8 times the record's length exceeds the
- *                                   page's capacity; its index is that
- *                                   capacity.
+ *             1 (WOM_REFUSED_PAGE_LENGTH)   if the page is not 256 bytes,
+ *             5 (WOM_REFUSED_STATE)         if the state is not 0x01,
+ *             6 (WOM_REFUSED_HEADER)        if byte 1 or byte 2 is not 0,
+ *             7 (WOM_REFUSED_WORD)          if a word is not legal; its index
+ *                                           is the lowest such word, 0 to 43,
+ *             8 (WOM_REFUSED_RECORD_LENGTH) if 8 times the record's length
+ *                                           exceeds the page's capacity; its
+ *                                           index is that capacity.
  *           The index is 0 but for 7 and 8. */
 uint64_t wom_rewrite(uint8_t *page, size_t page_length,
                      const uint8_t *record, size_t record_length);
@@ -284,14 +338,18 @@ uint64_t wom_rewrite(uint8_t *page, size_t page_length,
  *           are enough for every page.
  * @return : the record's length in bytes, 0 to 126;
  *           or a refusal, the first of these that applies:
- *             1 (WOM_PAGE_LENGTH)   if the page is not 256 bytes,
- *             5 (WOM_STATE)         if the state is not 0x07,
- *             6 (WOM_HEADER)        if byte 1 exceeds 126 or byte 2 is not 0,
- *             7 (WOM_WORD)          if a word is not well formed; its index is
- *                                   the lowest such word, 0 to 43,
- *             9 (WOM_DATA_CELLS)    if 8 times byte 1 exceeds the number of
- *                                   data cells, or a spare data cell is 1,
- *             3 (WOM_OUTPUT_LENGTH) if the output is shorter than the record.
+ *             1 (WOM_REFUSED_PAGE_LENGTH)   if the page is not 256 bytes,
+ *             5 (WOM_REFUSED_STATE)         if the state is not 0x07,
+ *             6 (WOM_REFUSED_HEADER)        if byte 1 exceeds 126 or byte 2 is
+ *                                           not 0,
+ *             7 (WOM_REFUSED_WORD)          if a word is not well formed; its
+ *                                           index is the lowest such word, 0 to
+ *                                           43,
+ *             9 (WOM_REFUSED_DATA_CELLS)    if 8 times byte 1 exceeds the
+ *                                           number of data cells, or a spare
+ *                                           data cell is 1,
+ *             3 (WOM_REFUSED_OUTPUT_LENGTH) if the output is shorter than the
+ *                                           record.
  *           The index is 0 but for 7. */
 uint64_t wom_read_second(const uint8_t *page, size_t page_length,
                          uint8_t *out, size_t out_length);

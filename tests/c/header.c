@@ -8,6 +8,7 @@
  *                          that the test is seen to fail: exit status 1
  *
  * Kinds: constant       a constant of the header
+ *        text           a text of the header
  *        parts          an answer, taken apart
  *        word           what a word entry answers for a value or its word
  *        word-refusal   a refusal by a word entry
@@ -37,22 +38,29 @@ static const struct {
     uint64_t came;
     uint64_t expected;
 } constants[] = {
-    CONSTANT(WOM_PAGE_LENGTH, 1),
-    CONSTANT(WOM_DATA_LENGTH, 2),
-    CONSTANT(WOM_OUTPUT_LENGTH, 3),
-    CONSTANT(WOM_NOT_BLANK, 4),
-    CONSTANT(WOM_STATE, 5),
-    CONSTANT(WOM_HEADER, 6),
-    CONSTANT(WOM_WORD, 7),
-    CONSTANT(WOM_RECORD_LENGTH, 8),
-    CONSTANT(WOM_DATA_CELLS, 9),
-    CONSTANT(WOM_HIGH_BIT, 10),
-    CONSTANT(WOM_NEIGHBOURS, 11),
-    CONSTANT(WOM_SUM, 12),
+    CONSTANT(WOM_REFUSED_PAGE_LENGTH, 1),
+    CONSTANT(WOM_REFUSED_DATA_LENGTH, 2),
+    CONSTANT(WOM_REFUSED_OUTPUT_LENGTH, 3),
+    CONSTANT(WOM_REFUSED_NOT_BLANK, 4),
+    CONSTANT(WOM_REFUSED_STATE, 5),
+    CONSTANT(WOM_REFUSED_HEADER, 6),
+    CONSTANT(WOM_REFUSED_WORD, 7),
+    CONSTANT(WOM_REFUSED_RECORD_LENGTH, 8),
+    CONSTANT(WOM_REFUSED_DATA_CELLS, 9),
+    CONSTANT(WOM_REFUSED_HIGH_BIT, 10),
+    CONSTANT(WOM_REFUSED_NEIGHBOURS, 11),
+    CONSTANT(WOM_REFUSED_SUM, 12),
+    CONSTANT(WOM_WORD_CELLS, 46),
     CONSTANT(WOM_PAGE_BYTES, 256),
+    CONSTANT(WOM_HEADER_BYTES, 3),
+    CONSTANT(WOM_WORDS, 44),
     CONSTANT(WOM_FIRST_BYTES, 176),
     CONSTANT(WOM_SECOND_BYTES_MAX, 126),
     CONSTANT(WOM_SECOND_BYTES_SURE, 82),
+    CONSTANT(WOM_STATE_BLANK, 0),
+    CONSTANT(WOM_STATE_FIRST, 1),
+    CONSTANT(WOM_STATE_SECOND, 7),
+    CONSTANT(WOM_VERSION, 10000),
 };
 
 static void check_constants(void)
@@ -63,6 +71,45 @@ static void check_constants(void)
         in_case(constants[i].name, constants[i].expected);
         check_number("constant", constants[i].came, constants[i].expected);
     }
+}
+
+static const struct {
+    unsigned number;
+    const char *expected;
+} texts[] = {
+    {0, "no refusal"},
+    {1, "page length"},
+    {2, "data length"},
+    {3, "output length"},
+    {4, "not blank"},
+    {5, "state"},
+    {6, "header"},
+    {7, "word"},
+    {8, "record length"},
+    {9, "data cells"},
+    {10, "high bit"},
+    {11, "neighbours"},
+    {12, "sum"},
+    {13, "unknown refusal"},
+    {255, "unknown refusal"},
+    {4294967295u, "unknown refusal"},
+};
+
+static void check_text(const char *came, const char *expected)
+{
+    check_number("text", strcmp(came, expected) == 0, 1);
+}
+
+static void check_texts(void)
+{
+    size_t i;
+
+    for (i = 0; i < COUNT(texts); i++) {
+        in_case(texts[i].expected, texts[i].number);
+        check_text(wom_refusal_name(texts[i].number), texts[i].expected);
+    }
+    in_case("WOM_VERSION_STRING", WOM_VERSION);
+    check_text(WOM_VERSION_STRING, "1.0.0");
 }
 
 static const struct {
@@ -487,6 +534,7 @@ int main(int argc, char **argv)
 {
     take_arguments("header [plant KIND]", argc, argv);
     check_constants();
+    check_texts();
     check_parts();
     check_values();
     check_refused_words();
