@@ -175,10 +175,45 @@ static inline const char *wom_refusal_name(unsigned number)
 }
 
 /* ------------------------------------------------------------------------
+ *  Calls
+ *
+ *  What the caller of every function below owes:
+ *
+ *    - it looks at wom_refusal() of the answer before it uses the result, the
+ *      page or an output;
+ *    - the call follows the System V convention for x86-64, as a C compiler
+ *      makes it: the stack pointer is a multiple of 16 right before the call
+ *      instruction (with a stack that is 8 bytes off, an aligned store faults),
+ *      and nothing, an interrupt handler included, writes the 128 bytes below
+ *      the stack pointer during the call;
+ *    - SSE2 is switched on, and the call may change the registers xmm0 to
+ *      xmm15, as the convention allows. Code that must leave them alone saves
+ *      them before the call and restores them after it: an interrupt handler
+ *      or a kernel that has not saved them, a program whose tasks are switched
+ *      without them (one built with -mgeneral-regs-only, say). A handler that
+ *      interrupts the call leaves them as they were.
+ *
+ *  In the archive as it is compiled now, these functions use xmm registers:
+ *
+ *      wom_encode_word  wom_decode_word  wom_fill_word  wom_word_capacity
+ *      wom_write_first  wom_read_first  wom_read_second
+ *
+ *  No function uses more than 256 bytes of stack, or an instruction beyond
+ *  those that every x86-64 processor has.
+ * ------------------------------------------------------------------------ */
+
+/* gcc and clang warn where the answer of a function so marked is dropped. */
+#ifdef __GNUC__
+#define WOM_MUST_USE __attribute__((warn_unused_result))
+#else
+#define WOM_MUST_USE
+#endif
+
+/* ------------------------------------------------------------------------
  *  Words
  *
- *  These functions are defined for every argument value: they have no
- *  precondition, and they touch no memory of the caller's.
+ *  These functions ask for nothing else: they are defined for every argument
+ *  value, and touch no memory of the caller's.
  * ------------------------------------------------------------------------ */
 
 #define WOM_WORD_CELLS 46 /* the cells of a word */
@@ -188,6 +223,7 @@ static inline const char *wom_refusal_name(unsigned number)
  *    value : any 32-bit value.
  * @return : the legal word of that value, in bits 0 to 45.
  *           It never refuses. */
+WOM_MUST_USE
 uint64_t wom_encode_word(uint32_t value);
 
 /*! wom_decode_word() :
@@ -199,6 +235,7 @@ uint64_t wom_encode_word(uint32_t value);
  *             11 (WOM_REFUSED_NEIGHBOURS) if two neighbouring cells are set,
  *             12 (WOM_REFUSED_SUM)        if the sum of the set weights
  *                                         exceeds 4294967295. */
+WOM_MUST_USE
 uint64_t wom_decode_word(uint64_t word);
 
 /*! wom_fill_word() :
@@ -214,6 +251,7 @@ uint64_t wom_decode_word(uint64_t word);
  *  Note : a filled word need not be legal. The word of value 0 is filled to
  *         every even cell, which each function that takes a word refuses
  *         with 12. */
+WOM_MUST_USE
 uint64_t wom_fill_word(uint64_t word);
 
 /*! wom_word_capacity() :
@@ -226,6 +264,7 @@ uint64_t wom_fill_word(uint64_t word);
  *             11 (WOM_REFUSED_NEIGHBOURS) if two neighbouring cells are set,
  *             12 (WOM_REFUSED_SUM)        if the sum of the set weights
  *                                         exceeds 4294967295. */
+WOM_MUST_USE
 uint64_t wom_word_capacity(uint64_t word);
 
 /* ------------------------------------------------------------------------
@@ -233,16 +272,13 @@ uint64_t wom_word_capacity(uint64_t word);
  *
  *  A buffer is a pointer to its first byte, and its length in bytes. Every
  *  function is defined for every length and every content of its buffers.
- *  What the caller owes is this:
+ *  Beside what every call asks for, the caller owes this:
  *
  *    - each pointer is valid for the length given with it: for reading, and
  *      for writing too where it is not to const; with length 0 it may be null
  *      or point anywhere;
  *    - the buffers of one call do not overlap, and nothing else changes them
- *      during the call;
- *    - the calling convention is System V's for x86-64: nothing, an interrupt
- *      handler included, writes the 128 bytes below the stack pointer during
- *      a call (this holds for the word functions too).
+ *      during the call.
  *
  *  A refused call writes no byte of any buffer. No other memory of the
  *  caller's is touched, and no pointer is kept.
@@ -273,6 +309,7 @@ uint64_t wom_word_capacity(uint64_t word);
  *             1 (WOM_REFUSED_PAGE_LENGTH) if the page is not 256 bytes,
  *             2 (WOM_REFUSED_DATA_LENGTH) if the data is not 176 bytes,
  *             4 (WOM_REFUSED_NOT_BLANK)   if any byte of the page is not 0. */
+WOM_MUST_USE
 uint64_t wom_write_first(uint8_t *page, size_t page_length,
                          const uint8_t *data, size_t data_length);
 
@@ -291,6 +328,7 @@ uint64_t wom_write_first(uint8_t *page, size_t page_length,
  *             3 (WOM_REFUSED_OUTPUT_LENGTH) if the output is shorter than 176
  *                                           bytes.
  *           The index is 0 but for 7. */
+WOM_MUST_USE
 uint64_t wom_read_first(const uint8_t *page, size_t page_length,
                         uint8_t *out, size_t out_length);
 
@@ -306,6 +344,7 @@ uint64_t wom_read_first(const uint8_t *page, size_t page_length,
  *             7 (WOM_REFUSED_WORD)        if a word is not legal; its index is
  *                                         the lowest such word, 0 to 43.
  *           The index is 0 but for 7. */
+WOM_MUST_USE
 uint64_t wom_page_capacity(const uint8_t *page, size_t page_length);
 
 /*! wom_rewrite() :
@@ -327,6 +366,7 @@ uint64_t wom_page_capacity(const uint8_t *page, size_t page_length);
  *                                           exceeds the page's capacity; its
  *                                           index is that capacity.
  *           The index is 0 but for 7 and 8. */
+WOM_MUST_USE
 uint64_t wom_rewrite(uint8_t *page, size_t page_length,
                      const uint8_t *record, size_t record_length);
 
@@ -351,6 +391,7 @@ uint64_t wom_rewrite(uint8_t *page, size_t page_length,
  *             3 (WOM_REFUSED_OUTPUT_LENGTH) if the output is shorter than the
  *                                           record.
  *           The index is 0 but for 7. */
+WOM_MUST_USE
 uint64_t wom_read_second(const uint8_t *page, size_t page_length,
                          uint8_t *out, size_t out_length);
 
