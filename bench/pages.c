@@ -1,7 +1,8 @@
 /*
  * The page operations on 100 pseudo-random pages, with the longest record that
- * fits. How it is started: passes.h. Before each call the page is copied
- * afresh, for `nothing` as well.
+ * fits, and each on the page that takes it most instructions. How it is
+ * started: passes.h. Before each call the page is copied afresh, for `nothing`
+ * as well.
  *
  * Kinds: answer    an answer
  *        page      the page afterwards
@@ -16,8 +17,23 @@
 #include "wom.h"
 
 #define COUNT 100
+
+/* The worst pages come after the random ones. Write first and read first have a
+ * turn for each set cell, rewrite and read second one for each data cell. */
+enum { MOST_SET = COUNT, MOST_ROOM, SHORT_RECORD, ACCEPTED };
+
+/* All 44 words have the value. */
+static const struct {
+    uint32_t value;
+    size_t longest; /* the record's bytes, or fewer where these do not fit */
+} worst[ACCEPTED - COUNT] = {
+    {2971215072u, WOM_SECOND_BYTES_MAX}, /* every odd cell is set */
+    {0, WOM_SECOND_BYTES_MAX},           /* 1012 data cells */
+    {0, 7}, /* of all lengths the longest to copy and to test the spare cells */
+};
+
 #define REFUSED 17
-#define PAGES (COUNT + REFUSED)
+#define PAGES (ACCEPTED + REFUSED)
 
 typedef uint8_t page_bytes[WOM_PAGE_BYTES];
 
@@ -74,17 +90,17 @@ WITH_OUTPUT(wom_read_second, second)
 WITH_OUTPUT(plain_read_second, second)
 
 static const struct operation operations[] = {
-    {"nothing", call_nothing},
-    {"wom_write_first", call_wom_write_first},
-    {"plain_write_first", call_plain_write_first},
-    {"wom_read_first", call_wom_read_first},
-    {"plain_read_first", call_plain_read_first},
-    {"wom_page_capacity", call_wom_page_capacity},
-    {"plain_page_capacity", call_plain_page_capacity},
-    {"wom_rewrite", call_wom_rewrite},
-    {"plain_rewrite", call_plain_rewrite},
-    {"wom_read_second", call_wom_read_second},
-    {"plain_read_second", call_plain_read_second},
+    {"nothing", call_nothing, MOST_SET},
+    {"wom_write_first", call_wom_write_first, MOST_SET},
+    {"plain_write_first", call_plain_write_first, MOST_SET},
+    {"wom_read_first", call_wom_read_first, MOST_SET},
+    {"plain_read_first", call_plain_read_first, MOST_SET},
+    {"wom_page_capacity", call_wom_page_capacity, MOST_ROOM},
+    {"plain_page_capacity", call_plain_page_capacity, MOST_ROOM},
+    {"wom_rewrite", call_wom_rewrite, MOST_ROOM},
+    {"plain_rewrite", call_plain_rewrite, MOST_ROOM},
+    {"wom_read_second", call_wom_read_second, SHORT_RECORD},
+    {"plain_read_second", call_plain_read_second, SHORT_RECORD},
 };
 
 #define OPERATIONS ((int)(sizeof operations / sizeof operations[0]))
@@ -136,6 +152,28 @@ static void fill_at_random(uint8_t *bytes, size_t length, uint64_t *state)
     }
 }
 
+static void put_values(uint8_t *bytes, uint32_t value)
+{
+    int i;
+
+    for (i = 0; i < WOM_FIRST_BYTES; i++)
+        bytes[i] = (uint8_t)(value >> (24 - 8 * (i % 4)));
+}
+
+/* Page i in its first and its second round, from its first record and a random
+ * second one: the longest that fits, of at most that many bytes. */
+static void make_page(int i, size_t longest, uint64_t *state)
+{
+    size_t fits;
+
+    plain_write_first(first[i], sizeof first[i], data[i], sizeof data[i]);
+    fits = plain_page_capacity(first[i], sizeof first[i]) / 8;
+    record_length[i] = fits < longest ? fits : longest;
+    fill_at_random(record[i], record_length[i], state);
+    memcpy(second[i], first[i], sizeof second[i]);
+    plain_rewrite(second[i], sizeof second[i], record[i], record_length[i]);
+}
+
 static void make_pages(void)
 {
     uint64_t state = 1;
@@ -143,12 +181,11 @@ static void make_pages(void)
 
     for (i = 0; i < COUNT; i++) {
         fill_at_random(data[i], sizeof data[i], &state);
-        plain_write_first(first[i], sizeof first[i], data[i], sizeof data[i]);
-        record_length[i] = plain_page_capacity(first[i], sizeof first[i]) / 8;
-        fill_at_random(record[i], record_length[i], &state);
-        memcpy(second[i], first[i], sizeof second[i]);
-        plain_rewrite(second[i], sizeof second[i], record[i],
-                      record_length[i]);
+        make_page(i, WOM_SECOND_BYTES_MAX, &state);
+    }
+    for (; i < ACCEPTED; i++) {
+        put_values(data[i], worst[i - COUNT].value);
+        make_page(i, worst[i - COUNT].longest, &state);
     }
 }
 
@@ -156,8 +193,8 @@ static void make_refused(void)
 {
     int i;
 
-    for (i = COUNT; i < PAGES; i++) {
-        const struct refused *row = &refused[i - COUNT];
+    for (i = ACCEPTED; i < PAGES; i++) {
+        const struct refused *row = &refused[i - ACCEPTED];
 
         memcpy(data[i], data[0], sizeof data[i]);
         memcpy(record[i], record[0], sizeof record[i]);
@@ -216,7 +253,7 @@ static void compare_pages(int k)
 {
     int i;
 
-    for (i = 0; i < COUNT; i++)
+    for (i = 0; i < ACCEPTED; i++)
         compare_call("answer", k, i, 0);
 }
 
@@ -225,7 +262,7 @@ static void compare_refused(void)
     int i;
 
     for (i = 0; i < REFUSED; i++)
-        compare_call("refusal", refused[i].operation, COUNT + i,
+        compare_call("refusal", refused[i].operation, ACCEPTED + i,
                      refused[i].number);
 }
 
@@ -243,8 +280,7 @@ int main(int argc, char **argv)
 {
     make_pages();
     if (asks_for_passes(argc, argv))
-        return make_passes(operations, OPERATIONS, argv[1], atoi(argv[2]),
-                           COUNT);
+        return make_passes(operations, OPERATIONS, COUNT, argv);
     take_arguments(USAGE("pages"), argc, argv);
     make_refused();
     return compare();

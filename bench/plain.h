@@ -1,6 +1,11 @@
 /*
- * plain.h - the word and page operations in plain C, loops over the cells: what
- * the library's instruction counts are held against
+ * plain.h - the word and page operations in plain C: what the library's
+ * instruction counts are held against
+ *
+ * Loops that go cell by cell, as the rules are told, compiled by gcc -O2 (the
+ * flags stand in bench/run). No table but the weights, nothing done for a whole
+ * byte or word at a time, nothing tuned: a first writing of the rules in C, not
+ * the best that C can do.
  */
 #ifndef PLAIN_H
 #define PLAIN_H

@@ -1,6 +1,6 @@
 /*
- * The word operations on 1,000 pseudo-random values, or their words. How it is
- * started: passes.h.
+ * The word operations on 1,000 pseudo-random values, or their words, and on the
+ * value whose word has most set cells. How it is started: passes.h.
  *
  * Kinds: answer    an answer on a value or its word
  *        refusal   an answer on a word that is refused
@@ -11,6 +11,12 @@
 #include "wom.h"
 
 #define COUNT 1000
+
+/* The worst value comes after the random ones: every odd cell of its word is
+ * set, 23 cells. Every operation has a turn for each set cell, but for cell 0
+ * where the word is decoded. */
+#define WORST COUNT
+#define WORST_VALUE 2971215072u
 
 /* Words that are refused, each with its number. They are compared only. */
 #define REFUSED 3
@@ -24,8 +30,8 @@ static const struct {
     {UINT64_C(0x2aaaaaaaaaaa), 12}, /* every even cell */
 };
 
-static uint32_t values[COUNT];
-static uint64_t encoded[COUNT + REFUSED];
+static uint32_t values[WORST + 1];
+static uint64_t encoded[WORST + 1 + REFUSED];
 
 #define OF_VALUE(f)                    \
     static uint64_t call_##f(int i)    \
@@ -52,15 +58,15 @@ OF_WORD(wom_word_capacity)
 OF_WORD(plain_word_capacity)
 
 static const struct operation operations[] = {
-    {"nothing", call_nothing},
-    {"wom_encode_word", call_wom_encode_word},
-    {"plain_encode_word", call_plain_encode_word},
-    {"wom_decode_word", call_wom_decode_word},
-    {"plain_decode_word", call_plain_decode_word},
-    {"wom_fill_word", call_wom_fill_word},
-    {"plain_fill_word", call_plain_fill_word},
-    {"wom_word_capacity", call_wom_word_capacity},
-    {"plain_word_capacity", call_plain_word_capacity},
+    {"nothing", call_nothing, WORST},
+    {"wom_encode_word", call_wom_encode_word, WORST},
+    {"plain_encode_word", call_plain_encode_word, WORST},
+    {"wom_decode_word", call_wom_decode_word, WORST},
+    {"plain_decode_word", call_plain_decode_word, WORST},
+    {"wom_fill_word", call_wom_fill_word, WORST},
+    {"plain_fill_word", call_plain_fill_word, WORST},
+    {"wom_word_capacity", call_wom_word_capacity, WORST},
+    {"plain_word_capacity", call_plain_word_capacity, WORST},
 };
 
 #define OPERATIONS ((int)(sizeof operations / sizeof operations[0]))
@@ -75,8 +81,10 @@ static void make_values(void)
     for (i = 0; i < COUNT; i++) {
         state = next_state(state);
         values[i] = (uint32_t)(state >> 32);
-        encoded[i] = plain_encode_word(values[i]);
     }
+    values[WORST] = WORST_VALUE;
+    for (i = 0; i <= WORST; i++)
+        encoded[i] = plain_encode_word(values[i]);
 }
 
 static void make_refused(void)
@@ -84,7 +92,7 @@ static void make_refused(void)
     int i;
 
     for (i = 0; i < REFUSED; i++)
-        encoded[COUNT + i] = refused[i].word;
+        encoded[WORST + 1 + i] = refused[i].word;
 }
 
 /* Operation k of the library, on value or word i: the answer is that of plain
@@ -102,7 +110,7 @@ static void compare_values(int k)
 {
     int i;
 
-    for (i = 0; i < COUNT; i++)
+    for (i = 0; i <= WORST; i++)
         compare_call("answer", k, i, 0);
 }
 
@@ -111,7 +119,7 @@ static void compare_refused(int k)
     int i;
 
     for (i = 0; i < REFUSED; i++)
-        compare_call("refusal", k, COUNT + i, refused[i].number);
+        compare_call("refusal", k, WORST + 1 + i, refused[i].number);
 }
 
 static int compare(void)
@@ -130,8 +138,7 @@ int main(int argc, char **argv)
 {
     make_values();
     if (asks_for_passes(argc, argv))
-        return make_passes(operations, OPERATIONS, argv[1], atoi(argv[2]),
-                           COUNT);
+        return make_passes(operations, OPERATIONS, COUNT, argv);
     take_arguments(USAGE("words"), argc, argv);
     make_refused();
     return compare();
