@@ -7,13 +7,14 @@ use page::FirstWritten;
 use second::Rewritten;
 use second::SecondRead;
 use word::Decoded;
+use word::Encoded;
 use word::Filled;
 use word::Measured;
 ghost use mathlib.Core.Path.{_≡_};
 ghost use Prim.Native.Nat.{_<_};
 ghost use Rattle.answer.specs.Answer.{refusal};
 ghost use Rattle.answer.specs.Layout.{packed};
-ghost use Rattle.word.specs.Answer.{encodeAnswer, decodeAnswer, fillAnswer, capacityAnswer, decodedCode, filledCode, measuredCode};
+ghost use Rattle.word.specs.Answer.{encodeAnswer, decodeAnswer, fillAnswer, capacityAnswer, encodedCode, decodedCode, filledCode, measuredCode};
 ghost use Rattle.page.specs.Answer.{writeFirstAnswer, writeFirstLeaves, readFirstAnswer, readFirstLeaves, pageCapacityAnswer, firstWrittenCode, firstReadCode};
 ghost use Rattle.second.specs.Answer.{rewriteAnswer, rewriteLeaves, readSecondAnswer, readSecondLeaves, rewrittenCode, secondReadCode};
 ghost use Rattle.page.specs.Answer as pages;
@@ -43,12 +44,20 @@ const NEIGHBOURS: u64 = 11 << 56;
 
 const SUM_TOO_LARGE: u64 = 12 << 56;
 
+fn pack_encoded(e: Encoded) -> u64
+    ensures { λ r. ⌜ r ≡ packed (encodedCode e) ⌝ }
+{
+    match e {
+        Encoded::Word(w) => w,
+    }
+}
+
 // The word of a value.
 #[no_mangle]
 pub extern "C" fn wom_encode_word(value: u32) -> u64
     ensures { λ r. ⌜ r ≡ packed (encodeAnswer value) ⌝ }
 {
-    word::encode(value)
+    pack_encoded(word::encode(value))
 }
 
 fn pack_decoded(d: Decoded) -> u64
