@@ -1,15 +1,22 @@
 -- The three demands of specs/Demands.antt.
 -- Assumes nothing.
-use mathlib.Core.List.{List, _++_}
+use mathlib.Core.List.{List, [], _++_}
 use mathlib.Core.Logic.{_↔_, Iff·trans}
-use mathlib.Core.Path.{_≡_, refl, sym, _∙_}
+use mathlib.Core.Path.{_≡_, refl, sym, ap, _∙_}
 use Prim.Native.Nat.{ℕ, _*_, _≤_, _<_}
 use native.Mathlib.Omega.{arith}
+use lib.Dec.{T}
 use lib.ListN.{length, drop}
+use Rattle.cells.specs.Cells.{number, cells}
 use Rattle.cells.specs.Bytes.{Bytes, atStart}
-use Rattle.answer.specs.Answer.{result, refusal, numbers}
+use Rattle.answer.specs.Answer.{result, refusal, answer, numbers}
 use Rattle.answer.proofs.Chains.{no-other, refused-leaves, taken-leaves, output-leaves}
 use Rattle.window.specs.Words.{pageWords}
+use Rattle.word.specs.Word.{sum, legalWord, zeckendorf}
+use Rattle.word.specs.Fill.{fill, capacity, setBeforeLast}
+use Rattle.word.specs.Answer.{legalChecks, encodeAnswer, decodeAnswer, capacityAnswer}
+use Rattle.word.proofs.Answers.{legal-taken}
+use Rattle.word.proofs.Claims.{one-legal-word, legal-accepted, capacity-bounds}
 use Rattle.rows.specs.Page.{page256, byte1, firstRecord, firstPage, secondRecord, capacityAll}
 use Rattle.page.specs.Answer.{writeFirstChecks, writeFirstAnswer, firstChecks, readFirstChecks, readFirstAnswer, pageCapacityAnswer}
 use Rattle.page.proofs.FirstAnswers.{write-first, write-first-1, write-first-2, write-first-4, read-first, read-first-1567, read-first-3, check-refusals, check-taken}
@@ -21,7 +28,28 @@ use Rattle.demands.proofs.Bounds.{capacity-is, capacity-counts, bounds,
 use Rattle.demands.proofs.Laid.{sound256}
 use Rattle.demands.proofs.TwiceWritten.{outcome-sized, outcome-Bytes, length-back, record-back, outcome-second, no-cell-cleared, differ, second-exactly}
 
--- ---- demand 1
+-- ---- demand 1, words
+
+decodes : (w v : ℕ) → (decodeAnswer w ≡ result v) ↔ (T (legalWord w) × (v ≡ sum (cells 46 w)))
+decodes w v = legal-accepted .exactly w (sum (cells 46 w)) v
+
+encodes : (value w : ℕ) → value ≤ 4294967295 → (encodeAnswer value ≡ result w) ↔ (T (legalWord w) × (value ≡ sum (cells 46 w)))
+encodes value w h = (
+  λ e. let f : w ≡ number (zeckendorf 46 value) = cc in decodes w value .0 (rw f (one-legal-word .decode-encode value h)),
+  λ l. one-legal-word .encode-decode w value (decodes w value .1 l) .1,
+)
+
+encodes-zeckendorf : (value w : ℕ) → value ≤ 4294967295
+    → (encodeAnswer value ≡ result w) ↔ (T (legalWord w) × (w ≡ number (zeckendorf 46 value)))
+encodes-zeckendorf value w h = (λ e. (encodes value w h .0 e .0, cc), λ l. ap result (sym (l .1)))
+
+word-capacity : (w c : ℕ) → (capacityAnswer w ≡ result c) ↔ (T (legalWord w) × (c ≡ setBeforeLast (fill (cells 46 w))))
+word-capacity w c = Iff·trans (legal-accepted .exactly w _ c) (λ h. (h .0, h .1 ∙ counts (h .0)), λ h. (h .0, h .1 ∙ sym (counts (h .0))))
+  where
+    counts : T (legalWord w) → capacity (cells 46 w) ≡ setBeforeLast (fill (cells 46 w))
+    counts l = capacity-bounds .counts (cells 46 w) (legal-taken w l .apart)
+
+-- ---- demand 1, pages
 
 page-capacity : (P : List ℕ) (c : ℕ) → Bytes P → (pageCapacityAnswer P ≡ result c) ↔ (FirstRound P × (c ≡ dataCells P))
 page-capacity P c b =
@@ -43,14 +71,24 @@ read-seconds : (P out : List ℕ) (n : ℕ) → Bytes P → (readSecondAnswer P 
 read-seconds P out n b =
     Iff·trans (read-second page256 P out n b) (λ h. (h .0, h .2, omega (arith, h .1, h .2)), λ h. (h .0, omega (arith, h .1, h .2), h .1))
 
+-- ---- demand 1
+
 pub demand1 : Demand1
-unfolding writeFirstChecks firstChecks readFirstChecks rewriteChecks secondChecks readSecondChecks numbers
+unfolding legalChecks writeFirstChecks firstChecks readFirstChecks rewriteChecks secondChecks readSecondChecks answer numbers
 demand1 = record {
+  encode-word = encodes;
+  encode-zeckendorf = encodes-zeckendorf;
+  decode-word = decodes;
+  fill-word = λ w v. legal-accepted .exactly w _ v;
+  word-capacity = word-capacity;
   write-first = write-first page256;
   read-first = read-first page256;
   page-capacity = page-capacity;
   rewrite = rewrites;
   read-second = read-seconds;
+  decode-word-10-11-12 = λ w. legal-accepted .refused w _;
+  fill-word-10-11-12 = λ w. legal-accepted .refused w _;
+  word-capacity-10-11-12 = λ w. legal-accepted .refused w _;
   write-first-1 = write-first-1 page256;
   write-first-2 = write-first-2 page256;
   write-first-4 = write-first-4 page256;
@@ -65,6 +103,10 @@ demand1 = record {
   read-second-7 = read-second-7 page256;
   read-second-9 = read-second-9 page256;
   read-second-3 = read-second-3 page256;
+  encode-word-by = λ value. no-other [] _;
+  decode-word-by = λ w. no-other (legalChecks w) _;
+  fill-word-by = λ w. no-other (legalChecks w) _;
+  word-capacity-by = λ w. no-other (legalChecks w) _;
   write-first-by = λ P D. no-other (writeFirstChecks page256 P D) 0;
   read-first-by = λ P out. no-other (readFirstChecks page256 P out) 0;
   page-capacity-by = λ P. no-other (firstChecks page256 P) _;

@@ -1,8 +1,9 @@
 -- The customer's three demands, clause by clause, in document 01's terms. proofs/Demands.antt proves each. The contracts in src/ tie the
--- running code to `writeFirstAnswer`, `writeFirstLeaves` and their kin (Answer.antt): what each operation answers, and what each buffer
--- holds afterwards, for every page, record and output.
+-- running code to `decodeAnswer`, `writeFirstAnswer`, `writeFirstLeaves` and their kin (Answer.antt): what each operation answers, and what
+-- each buffer holds afterwards, for every value, word, page, record and output.
 --
 -- How to read a clause:
+--   (w : ℕ) →              for every word w, held as a number: its cells are `cells 46 w`, cell 0 first
 --   (P R : List ℕ) →       for every page P and every record R; a page, a record, an output is its list of bytes
 --   A → B, A ↔ B           if A then B; A just when B
 --   A × B, A ⊎ B, ¬ A      A and B; A or B; not A
@@ -20,12 +21,14 @@ use mathlib.Core.Path.{_≡_}
 use Prim.Native.Nat.{ℕ, _+_, _*_, _≤_, _<_}
 use lib.Dec.{T}
 use lib.ListN.{length, take, drop, getD}
-use Rattle.cells.specs.Cells.{number, bit, someSet}
+use Rattle.cells.specs.Cells.{number, cells, bit, someSet}
 use Rattle.cells.specs.Bytes.{bits, Bytes}
 use Rattle.answer.specs.Answer.{Answer, result, refusal, RefusesBy}
 use Rattle.window.specs.Words.{wordAt, pageWords}
-use Rattle.word.specs.Word.{sum, zeckendorf}
-use Rattle.word.specs.Fill.{setBeforeLast, wellFormed}
+use Rattle.word.specs.Word.{sum, legalWord, zeckendorf}
+use Rattle.word.specs.Fill.{fill, setBeforeLast, wellFormed}
+use Rattle.word.specs.Answer.{encodeAnswer, decodeAnswer, fillAnswer, capacityAnswer}
+use Rattle.word.specs.Claims.{WordRefusals}
 use Rattle.rows.specs.Page.{page256, state, byte1, byte2, blankOf, FirstRoundOf, SecondRoundOf, FitsOf, outcomeOf, fillAll, capacityAll}
 use Rattle.page.specs.Terms.{SizedOf, SecondHeaderOf, AllPassOf, LowestBadOf, secondBitsOf, FirstRefusalsOf}
 use Rattle.page.specs.Answer.{writeFirstAnswer, writeFirstLeaves, readFirstAnswer, readFirstLeaves, pageCapacityAnswer}
@@ -82,10 +85,19 @@ valueAt D i = number (bits (take 4 (drop (4 * i) D)))
 
 -- Demand 1. Each operation accepts exactly the pages and records that the rules describe, of every length, and ends. Everything else it
 -- refuses by the number in the document, without relying on a prior check, and a refused call writes no byte of any buffer.
--- (This is about the page operations; word/specs/Claims.antt has the same for words, `LegalAccepted`. The contracts have no `requires`, and
--- a proved function returns. Buffers that are only read cannot be written, by their type.)
+-- (The contracts have no `requires`, and a proved function returns. Word operations have no buffers; buffers that are only read cannot be
+-- written, by their type.)
 pub record Demand1 : Type 0 where
-  -- "accepts exactly"
+  -- "accepts exactly".
+  -- Encode a word: "Takes a 32-bit value, returns its legal word", the one whose sum the value is; it is the Zeckendorf word
+  pub encode-word : (value w : ℕ) → value ≤ 4294967295 → (encodeAnswer value ≡ result w) ↔ (T (legalWord w) × (value ≡ sum (cells 46 w)))
+  pub encode-zeckendorf : (value w : ℕ) → value ≤ 4294967295
+      → (encodeAnswer value ≡ result w) ↔ (T (legalWord w) × (w ≡ number (zeckendorf 46 value)))
+  -- Decode, fill, or measure a word: the legal words. "Returns value, filled word, or capacity": the number of data cells after the fill
+  pub decode-word : (w v : ℕ) → (decodeAnswer w ≡ result v) ↔ (T (legalWord w) × (v ≡ sum (cells 46 w)))
+  pub fill-word : (w v : ℕ) → (fillAnswer w ≡ result v) ↔ (T (legalWord w) × (v ≡ number (fill (cells 46 w))))
+  pub word-capacity : (w c : ℕ) → (capacityAnswer w ≡ result c) ↔ (T (legalWord w) × (c ≡ setBeforeLast (fill (cells 46 w))))
+  -- The page operations
   pub write-first : (P D : List ℕ) (v : ℕ) → (writeFirstAnswer P D ≡ result v) ↔ ((P ≡ blank) × (length D ≡ 176) × (v ≡ 0))
   pub read-first : (P out : List ℕ) (v : ℕ) → Bytes P → (readFirstAnswer P out ≡ result v) ↔ (FirstRound P × (176 ≤ length out) × (v ≡ 0))
   pub page-capacity : (P : List ℕ) (c : ℕ) → Bytes P → (pageCapacityAnswer P ≡ result c) ↔ (FirstRound P × (c ≡ dataCells P))
@@ -93,6 +105,11 @@ pub record Demand1 : Type 0 where
   pub read-second : (P out : List ℕ) (n : ℕ) → Bytes P → (readSecondAnswer P out ≡ result n) ↔ (SecondRound P × (n ≡ byte1 P) × (n ≤ length out))
   -- "Everything else it refuses by the number in the document": each refusal "is returned just when its condition holds and no earlier one
   -- does".
+  -- Decode, fill, or measure a word: "10 if a bit above cell 0 is set, 11 if two neighbours are set, 12 if the sum exceeds 4294967295".
+  -- (`RefusalsInWords` of word/specs/Claims.antt has the first two conditions bit by bit and cell by cell.)
+  pub decode-word-10-11-12 : (w : ℕ) → WordRefusals w (decodeAnswer w)
+  pub fill-word-10-11-12 : (w : ℕ) → WordRefusals w (fillAnswer w)
+  pub word-capacity-10-11-12 : (w : ℕ) → WordRefusals w (capacityAnswer w)
   -- Write first: "1 if the page is not 256 bytes, 2 if the data is not 176 bytes, 4 if any page byte is not 0"
   pub write-first-1 : (P D : List ℕ) (i : ℕ) → (writeFirstAnswer P D ≡ refusal 1 i) ↔ (¬ Sized P × (i ≡ 0))
   pub write-first-2 : (P D : List ℕ) (i : ℕ) → (writeFirstAnswer P D ≡ refusal 2 i) ↔ (Sized P × ¬ (length D ≡ 176) × (i ≡ 0))
@@ -117,7 +134,11 @@ pub record Demand1 : Type 0 where
       × ((length (secondBits P) < 8 * byte1 P) ⊎ T (someSet (drop (8 * byte1 P) (secondBits P)))) × (i ≡ 0))
   pub read-second-3 : (P out : List ℕ) (i : ℕ) → Bytes P
       → (readSecondAnswer P out ≡ refusal 3 i) ↔ (SecondRound P × (length out < byte1 P) × (i ≡ 0))
-  -- and there is no other number
+  -- and there is no other number: encode "never refuses"
+  pub encode-word-by : (value : ℕ) → RefusesBy [] (encodeAnswer value)
+  pub decode-word-by : (w : ℕ) → RefusesBy (10 ∷ 11 ∷ 12 ∷ []) (decodeAnswer w)
+  pub fill-word-by : (w : ℕ) → RefusesBy (10 ∷ 11 ∷ 12 ∷ []) (fillAnswer w)
+  pub word-capacity-by : (w : ℕ) → RefusesBy (10 ∷ 11 ∷ 12 ∷ []) (capacityAnswer w)
   pub write-first-by : (P D : List ℕ) → RefusesBy (1 ∷ 2 ∷ 4 ∷ []) (writeFirstAnswer P D)
   pub read-first-by : (P out : List ℕ) → RefusesBy (1 ∷ 5 ∷ 6 ∷ 7 ∷ 3 ∷ []) (readFirstAnswer P out)
   pub page-capacity-by : (P : List ℕ) → RefusesBy (1 ∷ 5 ∷ 6 ∷ 7 ∷ []) (pageCapacityAnswer P)
