@@ -1,5 +1,6 @@
--- The laws of kinds and lines.
+-- The laws of kinds, lines and listings.
 pub mod Deciding
 pub mod Decimals
 pub mod Storing
+pub mod Turning
 pub mod Claims

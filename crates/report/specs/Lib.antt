@@ -1,4 +1,5 @@
--- What a listing says of a page: its kind, and its line.
+-- What a listing says of a page: its kind, and its line; and the whole listing.
 pub mod Kinds
 pub mod Lines
+pub mod Listing
 pub mod Claims

@@ -1,0 +1,50 @@
+-- A turn of a listing: its line, and the turn after it. Assumes nothing.
+use mathlib.Core.Bool.{Bool, true, false}
+use mathlib.Core.List.{List, [], _∷_}
+use mathlib.Core.Path.{_≡_, refl}
+use Prim.Native.Nat.{ℕ, _+_, _≤_, _<_}
+use native.Mathlib.Omega.{arith}
+use borrow.Author.Tests.{eq-eqb, ne-eqb, lt-ltb, le-ltb}
+use lib.Dec.{eqb}
+use lib.ListN.{length}
+use Rattle.report.specs.Kinds.{kindOf}
+use Rattle.report.specs.Lines.{lineOf}
+use Rattle.report.specs.Listing.{turnLine, nextTurn}
+use Rattle.report.specs.declared.Turn.the-variants.{Page, End}
+
+module _ (index : ℕ) where
+  -- nothing came
+  pub turn-none : (l : List ℕ) → length l ≡ 0 → turnLine index l ≡ []
+  unfolding turnLine
+  turn-none [] e = refl
+  turn-none (b ∷ l) e = absurd (omega arith)
+
+  -- a piece came
+  pub turn-some : (l : List ℕ) → ¬ (length l ≡ 0) → turnLine index l ≡ lineOf index (kindOf l)
+  unfolding turnLine
+  turn-some [] e = absurd (e refl)
+  turn-some (b ∷ l) e = refl
+
+  -- where the line could not be written, after a short piece and after 4,096 pages there is no turn
+  pub next-unwritten : (n : ℕ) (w : Bool) → w ≡ false → nextTurn index n w ≡ End
+  unfolding nextTurn
+  next-unwritten n w e = rw e refl
+
+  pub next-short : (n : ℕ) (w : Bool) → ¬ (n ≡ 256) → nextTurn index n w ≡ End
+  unfolding nextTurn
+  next-short n false e = refl
+  next-short n true e = rw (ne-eqb n 256 e) refl
+
+  pub next-last : (n : ℕ) (w : Bool) → 4095 ≤ index → nextTurn index n w ≡ End
+  unfolding nextTurn
+  next-last n false h = refl
+  next-last n true h = go (eqb n 256) refl
+    where
+      go : (b : Bool) → eqb n 256 ≡ b → nextTurn index n true ≡ End
+      go false e = rw e refl
+      go true e = rw e rw (le-ltb (index + 1) 4096 (omega arith)) refl
+
+  -- else the next page's
+  pub next-page : (n : ℕ) (w : Bool) → w ≡ true → n ≡ 256 → index < 4095 → nextTurn index n w ≡ Page (index + 1)
+  unfolding nextTurn
+  next-page n w e s h = rw e rw (eq-eqb n 256 s) rw (lt-ltb (index + 1) 4096 (omega arith)) refl
