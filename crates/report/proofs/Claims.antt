@@ -1,19 +1,23 @@
 -- The claims of specs/Claims.antt.
 -- Assumes nothing.
+use mathlib.Core.Bool.{true}
 use mathlib.Core.List.{List, _++_}
-use mathlib.Core.Logic.{_↔_, ⊎-elim}
+use mathlib.Core.Logic.{_↔_, inl, inr, ⊎-elim}
 use mathlib.Core.Path.{_≡_, refl, sym, ap, _∙_}
-use Prim.Native.Nat.{ℕ, _≤_}
+use Prim.Native.Nat.{ℕ, suc, _≤_}
 use native.Mathlib.Omega.{arith}
+use borrow.Author.Tests.{le-ltb}
+use lib.Dec.{ltb}
 use lib.ListN.{length, replicate}
 use Rattle.cells.specs.Cells.{first, number, bit, cells}
 use Rattle.cells.specs.Bytes.{bits, Bytes}
-use Rattle.answer.specs.Answer.{Answer, result, refusal, among}
+use Rattle.answer.specs.Answer.{Answer, result, refusal, among, answer}
+use Rattle.answer.proofs.Chains.{last-passed, same-refusal}
 use Rattle.window.specs.Words.{pageWords}
 use Rattle.word.specs.Word.{seriesFrom, weight, zeckendorf}
 use Rattle.word.specs.Fill.{fillFrom, fill, readFrom, read, capacity}
 use Rattle.rows.specs.Page.{state, byte1, blankOf, firstWords, firstPage, capacityAll, page256}
-use Rattle.page.specs.Answer.{pageCapacityAnswer}
+use Rattle.page.specs.Answer.{firstChecks, readFirstChecks, readFirstAnswer, pageCapacityAnswer}
 use Rattle.second.specs.Answer.{readSecondAnswer}
 use Rattle.second.proofs.SecondAnswers.{read-second, read-second-1, read-second-5}
 use Rattle.demands.specs.Demands.{blank, Sized, FirstRound, SecondRound, dataCells}
@@ -23,18 +27,24 @@ use Rattle.demands.proofs.FirstPages.{first-written, words-written}
 use Rattle.demands.proofs.Laid.{sound256}
 use Rattle.report.specs.Kinds.{kindBy, kindOf}
 use Rattle.report.specs.Lines.{ascii, digits, decimal, lineOf}
-use Rattle.report.specs.Claims.{KindsExact, LinesRight}
+use Rattle.report.specs.Listing.{listingOf}
+use Rattle.report.specs.Claims.{KindsExact, LinesRight, ListingRight}
 use Rattle.report.proofs.Deciding.{kind-not-sized, kind-00, kind-01, kind-07, kind-unknown, WhyBad, not-sized, not-blank, unknown, first-bad, second-bad, blank-or-bad, kind-why, second-fits, bad-among}
 use Rattle.report.proofs.Decimals.{decimal-value, decimal-digit, decimal-first}
+use Rattle.report.proofs.Listings.{listing-none, listing-page, listing-last, listing-most, turns-listing}
 use Rattle.report.specs.declared.Kind.{Kind}
 use Rattle.report.specs.declared.Kind.the-variants.{Blank, First, Second, Bad}
 
 -- ---- kinds
 
 -- the blank page
+blank-sized : Sized blank
+unfolding blankOf
+blank-sized = refl
+
 blank-kind : kindOf blank ≡ Blank
 unfolding blankOf
-blank-kind = kind-00 blank refl refl ∙ ⊎-elim (λ h. h .1) (λ h. absurd (h .0 refl)) (blank-or-bad blank)
+blank-kind = kind-00 blank blank-sized refl ∙ ⊎-elim (λ h. h .1) (λ h. absurd (h .0 refl)) (blank-or-bad blank)
 
 -- `first` is what page capacity accepts
 first-page : (P : List ℕ) (c : ℕ) → Bytes P → (kindOf P ≡ First c) ↔ (FirstRound P × (c ≡ dataCells P))
@@ -95,6 +105,19 @@ first-refused P n z s =
     let r = refused-bad First (pageCapacityAnswer P) n (λ m e. let z : _≡_ {A = ℕ} 0 1 = cc in omega arith) in
     (λ e. r .0 (sym (kind-01 P z s) ∙ e), λ h. kind-01 P z s ∙ r .1 h)
 
+-- read first refuses alike with any output that the record fits
+first-refused-as-read : (P out : List ℕ) (n : ℕ) → Sized P → state P ≡ 1 → 176 ≤ length out
+    → (kindOf P ≡ Bad n) ↔ ((i : ℕ) × (readFirstAnswer P out ≡ refusal n i))
+unfolding readFirstChecks
+first-refused-as-read P out n z s l =
+    let cs = firstChecks page256 P in
+    let fits = last-passed cs (ltb (length out) 176) 3 0 0 (le-ltb (length out) 176 l) in
+    let r = first-refused P n z s in
+    (
+      λ e. let h = r .0 e in (h .0, fits ∙ same-refusal cs _ 0 n (h .0) (h .1)),
+      λ h. r .1 (h .0, same-refusal cs 0 _ n (h .0) (sym fits ∙ h .1)),
+    )
+
 -- read second refuses alike with any output that every record fits
 second-refused : (P out : List ℕ) (n : ℕ) → Sized P → state P ≡ 7 → 126 ≤ length out
     → (kindOf P ≡ Bad n) ↔ ((i : ℕ) × (readSecondAnswer P out ≡ refusal n i))
@@ -113,6 +136,7 @@ kinds-exact = record {
   bad-4 = λ P. (λ e. why-4 P (kind-why P (Bad 4) e), bad-4 P);
   bad-5 = λ P. (λ e. why-5 P (kind-why P (Bad 5) e), λ h. kind-unknown P (h .0) (h .1) (h .2) (h .3));
   first-refused = first-refused;
+  first-refused-as-read = first-refused-as-read;
   second-refused = second-refused;
   bad-numbers = λ P n e. bad-among P n (kind-why P (Bad n) e);
 }
@@ -145,9 +169,29 @@ zero-kind =
     first-page zeroPage 1012 (zero-first .of-bytes) .1 (zero-first, c)
 
 -- the two lines
-example : lineOf 0 (kindOf blank) ++ lineOf 1 (kindOf zeroPage) ≡ ascii "0 blank 0\n1 first 1012\n"
+two-lines : lineOf 0 (kindOf blank) ++ lineOf 1 (kindOf zeroPage) ≡ ascii "0 blank 0\n1 first 1012\n"
 unfolding lineOf decimal digits
-example = rw (blank-kind, zero-kind) refl
+two-lines = rw (blank-kind, zero-kind) refl
+
+example : listingOf (blank ++ zeroPage) ≡ ascii "0 blank 0\n1 first 1012\n"
+unfolding listingOf
+example =
+    listing-page 4095 0 blank zeroPage blank-sized
+    ∙ ap (λ (s : List ℕ). lineOf 0 (kindOf blank) ++ s) (listing-last 4094 1 zeroPage (omega (arith, zero-first .sized)) (omega (arith, zero-first .sized)))
+    ∙ two-lines
 
 pub lines-right : LinesRight
 lines-right = record { value = decimal-value; digit = decimal-digit; no-zero-first = decimal-first; example = example }
+
+-- ---- the listing
+
+pub listing-right : ListingRight
+unfolding listingOf
+listing-right = record {
+  page = listing-page;
+  last-piece = λ k index l some short. listing-last k index l some (omega arith) ∙ ap (lineOf index) (kind-not-sized l (omega arith));
+  empty = listing-none 4096 0;
+  most = listing-most 4096 0;
+  turns = λ k buffer l h. turns-listing (λ _. true) 4095 (omega arith) (λ i b. refl) (inl refl) 4096 k 0 buffer l h refl;
+  unwritten = λ w j k buffer l m h yes no. turns-listing w j (omega arith) yes (inr no) (suc j) k 0 buffer l (omega arith) (omega arith);
+}

@@ -3,4 +3,5 @@ pub mod Deciding
 pub mod Decimals
 pub mod Storing
 pub mod Turning
+pub mod Listings
 pub mod Claims

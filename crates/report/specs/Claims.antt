@@ -1,19 +1,21 @@
--- What holds of kinds and lines for every piece of input. proofs/Claims.antt proves it. demands/specs/Demands.antt says how to read a clause.
+-- What holds of kinds and lines for every piece of input, and of the listing for every input. proofs/Claims.antt proves it. demands/specs/Demands.antt says how to read a clause.
 -- Assumes nothing.
+use mathlib.Core.Bool.{Bool, true, false}
 use mathlib.Core.List.{List, [], _∷_, _++_}
 use mathlib.Core.Logic.{_↔_}
 use mathlib.Core.Path.{_≡_}
-use Prim.Native.Nat.{ℕ, _+_, _*_, _-_, _≤_, _<_}
+use Prim.Native.Nat.{ℕ, suc, _+_, _*_, _-_, _≤_, _<_}
 use lib.Dec.{T}
-use lib.ListN.{length, getD, replicate}
+use lib.ListN.{length, take, getD, replicate}
 use Rattle.cells.specs.Bytes.{Bytes}
 use Rattle.answer.specs.Answer.{refusal, among}
 use Rattle.rows.specs.Page.{page256, state, byte1, firstPage}
-use Rattle.page.specs.Answer.{pageCapacityAnswer}
+use Rattle.page.specs.Answer.{readFirstAnswer, pageCapacityAnswer}
 use Rattle.second.specs.Answer.{readSecondAnswer}
 use Rattle.demands.specs.Demands.{blank, Sized, FirstRound, SecondRound, dataCells}
 use Rattle.report.specs.Kinds.{kindOf}
 use Rattle.report.specs.Lines.{ascii, decimal, lineOf}
+use Rattle.report.specs.Listing.{listingFrom, listingOf, firstTurn, turnsFrom}
 use Rattle.report.specs.declared.Kind.the-variants.{Blank, First, Second, Bad}
 
 -- Each kind is given just where document 01 says, and `bad` has no other number than the six it names.
@@ -26,7 +28,9 @@ pub record KindsExact : Type 0 where
   pub bad-4 : (P : List ℕ) → (kindOf P ≡ Bad 4) ↔ (Sized P × (state P ≡ 0) × ¬ (P ≡ blank))
   pub bad-5 : (P : List ℕ) → (kindOf P ≡ Bad 5) ↔ (Sized P × ¬ (state P ≡ 0) × ¬ (state P ≡ 1) × ¬ (state P ≡ 7))
   pub first-refused : (P : List ℕ) (n : ℕ) → Sized P → state P ≡ 1 → (kindOf P ≡ Bad n) ↔ ((i : ℕ) × (pageCapacityAnswer P ≡ refusal n i))
-  -- whatever output read second is given, if every record fits it
+  -- whatever output read first is given, if the record fits it, and read second, if every record does
+  pub first-refused-as-read : (P out : List ℕ) (n : ℕ) → Sized P → state P ≡ 1 → 176 ≤ length out
+      → (kindOf P ≡ Bad n) ↔ ((i : ℕ) × (readFirstAnswer P out ≡ refusal n i))
   pub second-refused : (P out : List ℕ) (n : ℕ) → Sized P → state P ≡ 7 → 126 ≤ length out
       → (kindOf P ≡ Bad n) ↔ ((i : ℕ) × (readSecondAnswer P out ≡ refusal n i))
   pub bad-numbers : (P : List ℕ) (n : ℕ) → kindOf P ≡ Bad n → T (among n (1 ∷ 4 ∷ 5 ∷ 6 ∷ 7 ∷ 9 ∷ []))
@@ -42,4 +46,17 @@ pub record LinesRight : Type 0 where
   pub digit : (n i : ℕ) → i < length (decimal n) → (48 ≤ getD (decimal n) i 0) × (getD (decimal n) i 0 < 58)
   pub no-zero-first : (n : ℕ) → 0 < n → ¬ (getD (decimal n) 0 0 ≡ 48)
   -- "For a blank page followed by a page made from 176 zero bytes the whole output is"
-  pub example : lineOf 0 (kindOf blank) ++ lineOf 1 (kindOf (firstPage page256 blank (replicate 176 0))) ≡ ascii "0 blank 0\n1 first 1012\n"
+  pub example : listingOf (blank ++ firstPage page256 blank (replicate 176 0)) ≡ ascii "0 blank 0\n1 first 1012\n"
+
+pub record ListingRight : Type 0 where
+  -- "For each page it prints one line"; "1 for a last piece shorter than 256"; "Empty input prints nothing"
+  pub page : (k index : ℕ) (P l : List ℕ) → Sized P → listingFrom (suc k) index (P ++ l) ≡ lineOf index (kindOf P) ++ listingFrom k (suc index) l
+  pub last-piece : (k index : ℕ) (l : List ℕ) → 0 < length l → length l < 256 → listingFrom (suc k) index l ≡ lineOf index (Bad 1)
+  pub empty : listingOf [] ≡ []
+  -- it "stops after 4,096 pages": what follows them is not looked at
+  pub most : (l : List ℕ) → listingOf (take (4096 * 256) l) ≡ listingOf l
+  -- the turns, as many as the program may take, write the whole output, whatever the buffer held
+  pub turns : (k : ℕ) (buffer l : List ℕ) → 4096 ≤ k → turnsFrom (λ _. true) k firstTurn buffer l ≡ listingOf l
+  -- where the line of page j is the first that cannot be written, they end with it
+  pub unwritten : (written : ℕ → Bool) (j k : ℕ) (buffer l : List ℕ) → 4096 ≤ k → j < 4096 → ((i : ℕ) → i < j → written i ≡ true) → written j ≡ false
+      → turnsFrom written k firstTurn buffer l ≡ listingFrom (suc j) 0 l
