@@ -112,8 +112,7 @@ unfolding readFirstChecks
 first-refused-as-read P out n z s l =
     let cs = firstChecks page256 P in
     let fits = last-passed cs (ltb (length out) 176) 3 0 0 (le-ltb (length out) 176 l) in
-    let r = first-refused P n z s in
-    (
+    let r = first-refused P n z s in (
       λ e. let h = r .0 e in (h .0, fits ∙ same-refusal cs _ 0 n (h .0) (h .1)),
       λ h. r .1 (h .0, same-refusal cs 0 _ n (h .0) (sym fits ∙ h .1)),
     )

@@ -1,12 +1,12 @@
 -- Bytes stored one after another (`sets` of lib.Seq). Assumes nothing.
 use mathlib.Core.List.{List, [], _∷_, _++_}
 use mathlib.Core.Path.{_≡_, sym, ap, ap₂, _∙_}
-use Prim.Native.Nat.{ℕ, suc, _+_, _<_}
+use Prim.Native.Nat.{ℕ, suc, _+_, _≤_, _<_}
 use native.Mathlib.Nat.{add-zero, add-suc, suc-add}
 use native.Mathlib.Numerals.{add-one}
 use native.Mathlib.Omega.{arith}
-use lib.ListN.{length, take, set, getD, length-append}
-use lib.Seq.{sets, take-suc, length-take-le}
+use lib.ListN.{length, take, drop, set, getD, length-append}
+use lib.Seq.{sets, take-suc, take-at, length-take-le, sets-eq}
 
 -- one text after another is both at once
 pub sets-append : (out : List ℕ) (at : ℕ) (a b : List ℕ) → sets (sets out at a) (at + length a) b ≡ sets out at (a ++ b)
@@ -25,6 +25,12 @@ pub sets-turn : (out : List ℕ) (at : ℕ) (text : List ℕ) (i : ℕ) → i < 
 sets-turn out at text i h =
     sets-snoc out at (take i text) (getD text i 0) (at + i) (ap (λ (k : ℕ). at + k) (sym (length-take-le i text (omega arith))))
     ∙ ap (sets out at) (sym (take-suc text i 0 h) ∙ ap (λ (k : ℕ). take k text) (sym (add-one i)))
+
+-- a text stored at the start is what stands there
+pub sets-taken : (out text : List ℕ) (k : ℕ) → k ≡ length text → k ≤ length out → take k (sets out 0 text) ≡ text
+sets-taken out text k e h =
+    let fits : 0 + length text ≤ length out = omega arith in
+    ap (take k) (sets-eq text out 0 fits) ∙ take-at text (drop (0 + length text) out) k (sym e)
 
 -- a text is put into a line from byte `at` on, and r is the place after it
 pub record Put (old : List ℕ) (at : ℕ) (text : List ℕ) (r : ℕ) (new : List ℕ) : Type 0 where

@@ -1,11 +1,12 @@
 -- A turn of a listing: its line, and the turn after it. Assumes nothing.
-use mathlib.Core.Bool.{Bool, true, false}
+use mathlib.Core.Bool.{Bool, true, false, _&&_}
 use mathlib.Core.List.{List, [], _∷_}
+use mathlib.Core.Logic.{_⊎_, inl, inr}
 use mathlib.Core.Path.{_≡_, refl}
 use Prim.Native.Nat.{ℕ, _+_, _≤_, _<_}
 use native.Mathlib.Omega.{arith}
-use borrow.Author.Tests.{eq-eqb, ne-eqb, lt-ltb, le-ltb}
-use lib.Dec.{eqb}
+use borrow.Author.Tests.{ltb-true, eq-eqb, ne-eqb, lt-ltb, le-ltb}
+use lib.Dec.{eqb, ltb}
 use lib.ListN.{length}
 use Rattle.report.specs.Kinds.{kindOf}
 use Rattle.report.specs.Lines.{lineOf}
@@ -48,3 +49,14 @@ module _ (index : ℕ) where
   pub next-page : (n : ℕ) (w : Bool) → w ≡ true → n ≡ 256 → index < 4095 → nextTurn index n w ≡ Page (index + 1)
   unfolding nextTurn
   next-page n w e s h = rw e rw (eq-eqb n 256 s) rw (lt-ltb (index + 1) 4096 (omega arith)) refl
+
+  -- so there is none, or the next page's
+  pub next-cases : (n : ℕ) (w : Bool) → (nextTurn index n w ≡ End) ⊎ ((nextTurn index n w ≡ Page (index + 1)) × (index < 4095))
+  unfolding nextTurn
+  next-cases n w = go (w && eqb n 256) refl (ltb (index + 1) 4096) refl
+    where
+      go : (a : Bool) → w && eqb n 256 ≡ a → (b : Bool) → ltb (index + 1) 4096 ≡ b
+          → (nextTurn index n w ≡ End) ⊎ ((nextTurn index n w ≡ Page (index + 1)) × (index < 4095))
+      go false e b f = inl (rw e refl)
+      go true e false f = inl (rw e rw f refl)
+      go true e true f = let h = ltb-true (index + 1) 4096 f in inr (rw e rw f refl, omega arith)

@@ -1,79 +1,54 @@
--- `listing::list_page` is safe: the line lies within its buffer, which keeps its length.
+-- `listing::list_page` meets its contract: what stands at the line's start is the turn's line.
 -- Assumes nothing.
 use mathlib.Core.Path.{_≡_, sym, ap, _∙_}
 use Prim.Native.Nat.{_≤_}
 use native.Mathlib.Omega.{arith}
 use borrow.Author.Needs.{needs}
-use lib.ListN.{length, replicate}
+use lib.ListN.{length, take, replicate}
 use lib.Seq.{length-sets, length-take-le}
-use Rattle.report.specs.Lines.{lineOf}
+use Rattle.report.specs.Listing.{turnLine}
+use Rattle.report.proofs.Storing.{sets-taken}
 use Rattle.listing.proofs.list_page.Statement.{statement}
 use Rattle.listing.proofs.list_page.Tie as tie
 
-read-full-requires : tie.Need-read-full-requires
-read-full-requires c κs = search needs
+put-turn-requires : tie.Need-put-turn-requires
+put-turn-requires c κs = search needs
 
-same-length : tie.Need-same-length
-same-length c = search needs
+-- the line's buffer keeps its length
+sized : (c : tie.After-put-turn) → length (c .put-turn .last .1 .1 .1 .0) ≡ 32
+sized c =
+    let a = c .before .before .before .args in
+    ap length (c .put-turn .ensures .1 .1) ∙ length-sets (replicate 32 0) 0 (turnLine (a .index) (take (a .n) (a .page .now)))
 
-returns : tie.Need-returns
-returns c = search needs
-
-slice-reshare-prefix-kind-of : tie.Need-slice-reshare-prefix-kind-of
-slice-reshare-prefix-kind-of c = search needs
-
-slice-aggregate-kind-of : tie.Need-slice-aggregate-kind-of
-slice-aggregate-kind-of c = search needs
-
-kind-of-requires : tie.Need-kind-of-requires
-kind-of-requires c κs = search needs
-
-put-line-requires : tie.Need-put-line-requires
-put-line-requires c κs = search needs
-
-within : (c : tie.After-put-line) → c .put-line .result ≤ length (c .put-line .last .1 .1 .0)
-within c =
-    let index = c .before .before .before .before .before .before .before .before .before .before .args .index in
-    let kind = c .before .before .kind-of .result in
-    let size : length (c .put-line .last .1 .1 .0) ≡ 32 = ap length (c .put-line .ensures .1 .1) ∙ length-sets (replicate 32 0) 0 (lineOf index kind) in
-    omega (arith, c .put-line .ensures .1 .0, size)
+within : (c : tie.After-put-turn) → c .put-turn .result ≤ length (c .put-turn .last .1 .1 .1 .0)
+within c = omega (arith, c .put-turn .ensures .1 .0, sized c)
 
 array-share-prefix-line : tie.Need-array-share-prefix-line
 array-share-prefix-line c = within c
 
-slice-aggregate-write-all : tie.Need-slice-aggregate-write-all
-slice-aggregate-write-all c = sym (length-take-le _ _ (within (c .before)))
+slice-aggregate-write-line : tie.Need-slice-aggregate-write-line
+slice-aggregate-write-line c = sym (length-take-le _ _ (within (c .before)))
 
-write-all-requires : tie.Need-write-all-requires
-write-all-requires c κs = search needs
+write-line-requires : tie.Need-write-line-requires
+write-line-requires c κs =
+    let p = c .before .put-turn in
+    let a = c .before .before .before .before .args in
+    let line = turnLine (a .index) (take (a .n) (a .page .now)) in
+    ap (take (p .result)) (p .ensures .1 .1) ∙ sets-taken (replicate 32 0) line (p .result) (p .ensures .0) (p .ensures .1 .0)
 
-same-length-2 : tie.Need-same-length-2
-same-length-2 c = search needs
+next-turn-requires : tie.Need-next-turn-requires
+next-turn-requires c κs = search needs
 
-returns-2 : tie.Need-returns-2
-returns-2 c = search needs
-
-same-length-3 : tie.Need-same-length-3
-same-length-3 c = search needs
-
-returns-3 : tie.Need-returns-3
-returns-3 c = search needs
+returns : tie.Need-returns
+returns c = search needs
 
 pub list-page-spec : {M : Type 1} → statement M
 list-page-spec =
     tie.close
     (tie.spec
-    read-full-requires
-    same-length
-    returns
-    slice-reshare-prefix-kind-of
-    slice-aggregate-kind-of
-    kind-of-requires
-    put-line-requires
+    put-turn-requires
     array-share-prefix-line
-    slice-aggregate-write-all
-    write-all-requires
-    same-length-2
-    returns-2
-    same-length-3
-    returns-3)
+    slice-aggregate-write-line
+    write-line-requires
+    next-turn-requires
+    returns)

@@ -1,0 +1,80 @@
+-- `listing::list_pages` meets its contract. The loop's invariant: the buffer keeps its length. The measure is how many pages may still come.
+-- Assumes nothing.
+use mathlib.Core.Bool.{Bool}
+use mathlib.Core.Logic.{⊎-elim}
+use mathlib.Core.Path.{_≡_, refl, ap, _∙_}
+use Prim.Native.Nat.{ℕ, suc, _+_, _-_, _<_}
+use native.Mathlib.Omega.{arith}
+use borrow.Author.Needs.{needs}
+use lib.ListN.{length}
+use Rattle.report.specs.Listing.{nextTurn}
+use Rattle.report.specs.declared.Turn.{Turn}
+use Rattle.report.specs.declared.Turn.the-variants.{Page, End}
+use Rattle.report.proofs.Turning.{next-cases}
+use Rattle.listing.proofs.list_pages.Statement.{statement}
+use Rattle.listing.proofs.list_pages.Tie as tie
+
+-- the turns that are left, at most
+abbrev left : Turn → ℕ
+left (Page index) = suc (4095 - index)
+left End = 0
+
+-- a turn takes one of them
+less : (index n : ℕ) (w : Bool) {t u : Turn} → t ≡ Page index → u ≡ nextTurn index n w → left u < left t
+less index n w {t} {u} p e =
+    let was : left t ≡ suc (4095 - index) = ap left p in
+    ⊎-elim (λ h. let is : left u ≡ 0 = ap left (e ∙ h) in omega arith)
+    (λ h. let is : left u ≡ suc (4095 - (index + 1)) = ap left (e ∙ h .0) in omega (arith, h .1)) (next-cases index n w)
+
+abbrev Inv-loop : tie.InvT-loop
+Inv-loop page₀ turn₀ page turn = length page ≡ length page₀
+
+abbrev μ-loop : tie.MeasureT-loop
+μ-loop page₀ turn₀ page turn = left turn
+
+loop-holds : tie.Need-loop-holds Inv-loop μ-loop
+loop-holds c = refl
+
+enum-known-turn : tie.Need-enum-known-turn Inv-loop μ-loop
+enum-known-turn c = search needs
+
+read-full-requires : tie.Need-read-full-requires Inv-loop μ-loop
+read-full-requires c κs = search needs
+
+list-page-requires : tie.Need-list-page-requires Inv-loop μ-loop
+list-page-requires c κs = search needs
+
+loop-less : tie.Need-loop-less Inv-loop μ-loop
+loop-less c =
+    let known = c .before .before .before .before .before .before .before .turn .given in
+    less _ _ (c .list-page .ensures .0) (known .1) (c .list-page .ensures .1)
+
+loop-again : tie.Need-loop-again Inv-loop μ-loop
+loop-again c =
+    let read = c .before .before .before .before in
+    read .read-full .kept .1 .0 ∙ read .before .before .before .before .before .loop .inv
+
+enum-told : tie.Need-enum-told Inv-loop μ-loop
+enum-told c = search needs
+
+same-length : tie.Need-same-length Inv-loop μ-loop
+same-length c = c .before .before .loop .inv
+
+returns : tie.Need-returns Inv-loop μ-loop
+returns c = c .enum-told .given .1
+
+pub list-pages-spec : {M : Type 1} → statement M
+list-pages-spec =
+    tie.close
+    (tie.spec
+    Inv-loop
+    μ-loop
+    loop-holds
+    enum-known-turn
+    read-full-requires
+    list-page-requires
+    loop-less
+    loop-again
+    enum-told
+    same-length
+    returns)
