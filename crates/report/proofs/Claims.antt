@@ -175,8 +175,8 @@ two-lines = rw (blank-kind, zero-kind) refl
 example : listingOf (blank ++ zeroPage) ≡ ascii "0 blank 0\n1 first 1012\n"
 unfolding listingOf
 example =
-    listing-page 4095 0 blank zeroPage blank-sized
-    ∙ ap (λ (s : List ℕ). lineOf 0 (kindOf blank) ++ s) (listing-last 4094 1 zeroPage (omega (arith, zero-first .sized)) (omega (arith, zero-first .sized)))
+    listing-page _ 0 blank zeroPage blank-sized
+    ∙ ap (λ (s : List ℕ). lineOf 0 (kindOf blank) ++ s) (listing-last _ 1 zeroPage (omega (arith, zero-first .sized)) (omega (arith, zero-first .sized)))
     ∙ two-lines
 
 pub lines-right : LinesRight
@@ -189,8 +189,8 @@ unfolding listingOf
 listing-right = record {
   page = listing-page;
   last-piece = λ k index l some short. listing-last k index l some (omega arith) ∙ ap (lineOf index) (kind-not-sized l (omega arith));
-  empty = listing-none 4096 0;
-  most = listing-most 4096 0;
+  empty = listing-none _ 0;
+  most = λ n l h. listing-most _ 0 n l (omega arith);
   turns = λ k buffer l h. turns-listing (λ _. true) 4095 (omega arith) (λ i b. refl) (inl refl) 4096 k 0 buffer l h refl;
   unwritten = λ w j k buffer l m h yes no. turns-listing w j (omega arith) yes (inr no) (suc j) k 0 buffer l (omega arith) (omega arith);
 }

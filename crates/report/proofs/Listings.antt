@@ -3,7 +3,7 @@ use mathlib.Core.Bool.{Bool, true, false}
 use mathlib.Core.List.{List, [], _∷_, _++_, append-nil}
 use mathlib.Core.Logic.{_⊎_, inl, inr, ⊎-elim}
 use mathlib.Core.Path.{_≡_, refl, sym, ap, ap₂, _∙_}
-use Prim.Native.Nat.{ℕ, zero, suc, _+_, _*_, _≤_, _<_}
+use Prim.Native.Nat.{ℕ, zero, suc, _+_, _*_, _-_, _≤_, _<_}
 use native.Mathlib.Numerals.{add-one}
 use native.Mathlib.Omega.{arith}
 use borrow.Author.Tests.{ltb-true, ltb-false}
@@ -54,16 +54,15 @@ listing-last k index l some h =
     ∙ append-nil (lineOf index (kindOf l))
 
 -- what lies beyond the pages to be listed does not count
-pub listing-most : (k index : ℕ) (l : List ℕ) → listingFrom k index (take (k * 256) l) ≡ listingFrom k index l
+pub listing-most : (k index n : ℕ) (l : List ℕ) → k * 256 ≤ n → listingFrom k index (take n l) ≡ listingFrom k index l
 unfolding listingFrom
-listing-most zero index l = refl
-listing-most (suc k) index l =
-    let n : suc k * 256 ≡ 256 + k * 256 = omega arith in
-    let head : take 256 (take (suc k * 256) l) ≡ take 256 l = take-take 256 (suc k * 256) l (omega arith) in
-    let tail : drop 256 (take (suc k * 256) l) ≡ take (k * 256) (drop 256 l) = ap (λ (m : ℕ). drop 256 (take m l)) n ∙ drop-take 256 (k * 256) l in
-    listing-turn k index (take (suc k * 256) l)
-    ∙ ap₂ (λ (p r : List ℕ). turnLine index p ++ listingFrom k (suc index) r) head tail
-    ∙ ap (λ (r : List ℕ). turnLine index (take 256 l) ++ r) (listing-most k (suc index) (drop 256 l))
+listing-most zero index n l h = refl
+listing-most (suc k) index n l h =
+    let split : n ≡ 256 + (n - 256) = omega arith in
+    let tail : drop 256 (take n l) ≡ take (n - 256) (drop 256 l) = ap (λ (m : ℕ). drop 256 (take m l)) split ∙ drop-take 256 (n - 256) l in
+    listing-turn k index (take n l)
+    ∙ ap₂ (λ (p r : List ℕ). turnLine index p ++ listingFrom k (suc index) r) (take-take 256 n l (omega arith)) tail
+    ∙ ap (λ (r : List ℕ). turnLine index (take 256 l) ++ r) (listing-most k (suc index) (n - 256) (drop 256 l) (omega arith))
     ∙ sym (listing-turn k index l)
 
 -- ---- the turns

@@ -54,7 +54,7 @@ pub record ListingRight : Type 0 where
   pub last-piece : (k index : ℕ) (l : List ℕ) → 0 < length l → length l < 256 → listingFrom (suc k) index l ≡ lineOf index (Bad 1)
   pub empty : listingOf [] ≡ []
   -- it "stops after 4,096 pages": what follows them is not looked at
-  pub most : (l : List ℕ) → listingOf (take (4096 * 256) l) ≡ listingOf l
+  pub most : (n : ℕ) (l : List ℕ) → 4096 * 256 ≤ n → listingOf (take n l) ≡ listingOf l
   -- the turns, as many as the program may take, write the whole output, whatever the buffer held
   pub turns : (k : ℕ) (buffer l : List ℕ) → 4096 ≤ k → turnsFrom (λ _. true) k firstTurn buffer l ≡ listingOf l
   -- where the line of page j is the first that cannot be written, they end with it

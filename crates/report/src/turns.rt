@@ -53,5 +53,6 @@ pub fn next_turn(index: u32, n: usize, is_written: bool) -> Turn
     if index >= 4095 {
         return Turn::End;
     }
-    Turn::Page(index + 1)
+    let next = index + 1;
+    Turn::Page(next)
 }

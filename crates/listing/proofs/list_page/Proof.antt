@@ -16,9 +16,7 @@ put-turn-requires c κs = search needs
 
 -- the line's buffer keeps its length
 sized : (c : tie.After-put-turn) → length (c .put-turn .last .1 .1 .1 .0) ≡ 32
-sized c =
-    let a = c .before .before .before .args in
-    ap length (c .put-turn .ensures .1 .1) ∙ length-sets (replicate 32 0) 0 (turnLine (a .index) (take (a .n) (a .page .now)))
+sized c = ap length (c .put-turn .ensures .1 .1) ∙ simp length-sets
 
 within : (c : tie.After-put-turn) → c .put-turn .result ≤ length (c .put-turn .last .1 .1 .1 .0)
 within c = omega (arith, c .put-turn .ensures .1 .0, sized c)
@@ -40,7 +38,7 @@ next-turn-requires : tie.Need-next-turn-requires
 next-turn-requires c κs = search needs
 
 returns : tie.Need-returns
-returns c = search needs
+returns c = (c .before .write-line .result, c .next-turn .ensures)
 
 pub list-page-spec : {M : Type 1} → statement M
 list-page-spec =

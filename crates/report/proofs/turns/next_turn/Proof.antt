@@ -8,19 +8,22 @@ use Rattle.report.proofs.turns.next_turn.Statement.{statement}
 use Rattle.report.proofs.turns.next_turn.Tie as tie
 
 returns : tie.Need-returns
-returns c = sym (next-unwritten _ _ _ (not-true _ (c .if1 .taken)))
+returns c = let a = c .before .args in sym (next-unwritten (a .index) (a .n) (a .is-written) (not-true (a .is-written) (c .if1 .taken)))
 
 returns-2 : tie.Need-returns-2
-returns-2 c = sym (next-short _ _ _ (c .if2 .taken))
+returns-2 c = let a = c .before .before .args in sym (next-short (a .index) (a .n) (a .is-written) (c .if2 .taken))
 
 returns-3 : tie.Need-returns-3
-returns-3 c = sym (next-last _ _ _ (c .if3 .taken))
+returns-3 c = let a = c .before .before .before .args in sym (next-last (a .index) (a .n) (a .is-written) (c .if3 .taken))
 
-add-t5 : tie.Need-add-t5
-add-t5 c = search needs
+add-next : tie.Need-add-next
+add-next c = search needs
 
 returns-4 : tie.Need-returns-4
-returns-4 c = sym (next-page _ _ _ (not-false _ (c .before .before .if1 .left)) (c .before .if2 .left) (c .if3 .left))
+returns-4 c =
+    let full = c .before in
+    let a = full .before .before .args in
+    sym (next-page (a .index) (a .n) (a .is-written) (not-false (a .is-written) (full .before .if1 .left)) (full .if2 .left) (c .if3 .left))
 
 pub next-turn-spec : {M : Type 1} → statement M
-next-turn-spec = tie.close (tie.spec returns returns-2 returns-3 add-t5 returns-4)
+next-turn-spec = tie.close (tie.spec returns returns-2 returns-3 add-next returns-4)
