@@ -11,7 +11,7 @@ use lib.Dec.{ltb}
 use lib.ListN.{length, replicate}
 use Rattle.cells.specs.Cells.{first, number, bit, cells}
 use Rattle.cells.specs.Bytes.{bits, Bytes}
-use Rattle.answer.specs.Answer.{Answer, result, refusal, among, answer}
+use Rattle.answer.specs.Answer.{Answer, result, refusal, among}
 use Rattle.answer.proofs.Chains.{last-passed, same-refusal}
 use Rattle.window.specs.Words.{pageWords}
 use Rattle.word.specs.Word.{seriesFrom, weight, zeckendorf}

@@ -1,7 +1,7 @@
 -- The whole listing: page by page, its end, and the turns that write it. Assumes nothing.
 use mathlib.Core.Bool.{Bool, true, false}
 use mathlib.Core.List.{List, [], _∷_, _++_, append-nil}
-use mathlib.Core.Logic.{_⊎_, inl, inr, ⊎-elim}
+use mathlib.Core.Logic.{_⊎_, ⊎-elim}
 use mathlib.Core.Path.{_≡_, refl, sym, ap, ap₂, _∙_}
 use Prim.Native.Nat.{ℕ, zero, suc, _+_, _*_, _-_, _≤_, _<_}
 use native.Mathlib.Numerals.{add-one}
@@ -41,15 +41,11 @@ listing-page k index P l sized =
     ∙ ap₂ (λ (p r : List ℕ). turnLine index p ++ listingFrom k (suc index) r) (take-at P l 256 sized) (drop-at P l 256 sized)
     ∙ ap (λ (s : List ℕ). s ++ listingFrom k (suc index) l) (turn-some index P (omega (arith, sized)))
 
--- nothing follows a page or less
-all-dropped : (l : List ℕ) → length l ≤ 256 → drop 256 l ≡ []
-all-dropped l h = drop-of-length-le l h
-
 -- a last piece, of a page or less
 pub listing-last : (k index : ℕ) (l : List ℕ) → 0 < length l → length l ≤ 256 → listingFrom (suc k) index l ≡ lineOf index (kindOf l)
 listing-last k index l some h =
     listing-turn k index l
-    ∙ ap₂ (λ (p r : List ℕ). turnLine index p ++ listingFrom k (suc index) r) (take-all 256 l h) (all-dropped l h)
+    ∙ ap₂ (λ (p r : List ℕ). turnLine index p ++ listingFrom k (suc index) r) (take-all 256 l h) (drop-of-length-le l h)
     ∙ ap₂ (λ (s t : List ℕ). s ++ t) (turn-some index l (omega arith)) (listing-none k (suc index))
     ∙ append-nil (lineOf index (kindOf l))
 
@@ -103,7 +99,7 @@ module _ (w : ℕ → Bool) (last : ℕ) (limit : last ≤ 4095) (written : (i :
           let h = ltb-true (length l) 256 t in
           ap (λ (n : Turn). turnsFrom w k n page (drop 256 l)) (next-short index _ (w index) (omega (arith, ap length (take-all 256 l (omega arith)))))
           ∙ turns-end w k page (drop 256 l)
-          ∙ sym (ap (listingFrom m (suc index)) (all-dropped l (omega arith)) ∙ listing-none m (suc index))
+          ∙ sym (ap (listingFrom m (suc index)) (drop-of-length-le l {i = 256} (omega arith)) ∙ listing-none m (suc index))
       go false t =
           ap (λ (n : Turn). turnsFrom w k n page (drop 256 l)) (next-due m index _ e (length-take-le 256 l (ltb-false (length l) 256 t))) ∙ r
 

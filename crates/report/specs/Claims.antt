@@ -1,4 +1,5 @@
--- What holds of kinds and lines for every piece of input, and of the listing for every input. proofs/Claims.antt proves it. demands/specs/Demands.antt says how to read a clause.
+-- What holds of kinds and lines for every piece of input, and of the listing for every input. proofs/Claims.antt proves it.
+-- demands/specs/Demands.antt says how to read a clause.
 -- Assumes nothing.
 use mathlib.Core.Bool.{Bool, true, false}
 use mathlib.Core.List.{List, [], _∷_, _++_}
@@ -49,14 +50,17 @@ pub record LinesRight : Type 0 where
   pub example : listingOf (blank ++ firstPage page256 blank (replicate 176 0)) ≡ ascii "0 blank 0\n1 first 1012\n"
 
 pub record ListingRight : Type 0 where
-  -- "For each page it prints one line"; "1 for a last piece shorter than 256"; "Empty input prints nothing"
+  -- "For each page it prints one line"
   pub page : (k index : ℕ) (P l : List ℕ) → Sized P → listingFrom (suc k) index (P ++ l) ≡ lineOf index (kindOf P) ++ listingFrom k (suc index) l
+  -- "1 for a last piece shorter than 256"
   pub last-piece : (k index : ℕ) (l : List ℕ) → 0 < length l → length l < 256 → listingFrom (suc k) index l ≡ lineOf index (Bad 1)
+  -- "Empty input prints nothing."
   pub empty : listingOf [] ≡ []
   -- it "stops after 4,096 pages": what follows them is not looked at
   pub most : (n : ℕ) (l : List ℕ) → 4096 * 256 ≤ n → listingOf (take n l) ≡ listingOf l
-  -- the turns, as many as the program may take, write the whole output, whatever the buffer held
+  -- the turns, of which the program takes as many as there are, write the whole output where every line can be written, whatever the buffer
+  -- held
   pub turns : (k : ℕ) (buffer l : List ℕ) → 4096 ≤ k → turnsFrom (λ _. true) k firstTurn buffer l ≡ listingOf l
-  -- where the line of page j is the first that cannot be written, they end with it
-  pub unwritten : (written : ℕ → Bool) (j k : ℕ) (buffer l : List ℕ) → 4096 ≤ k → j < 4096 → ((i : ℕ) → i < j → written i ≡ true) → written j ≡ false
-      → turnsFrom written k firstTurn buffer l ≡ listingFrom (suc j) 0 l
+  -- where page j's line is the first that cannot be written, they end with it
+  pub unwritten : (written : ℕ → Bool) (j k : ℕ) (buffer l : List ℕ) → 4096 ≤ k → j < 4096
+      → ((i : ℕ) → i < j → written i ≡ true) → written j ≡ false → turnsFrom written k firstTurn buffer l ≡ listingFrom (suc j) 0 l
