@@ -22,6 +22,9 @@ const INDICES: [usize; 8] = [0, 1, 3, 4, 21, 22, 42, 43];
 /// The value whose word has cells 0 and 45 set: the set cells of two such words touch, and are legal.
 const EDGE_VALUE: u32 = 2_971_215_074;
 
+/// The value whose word has cell 0 alone set, between its neighbours.
+const CELL_0_VALUES: [u32; 3] = [2_971_215_072, 2_971_215_073, EDGE_VALUE];
+
 /// The calls made so far.
 struct Script {
     random: Random,
@@ -49,6 +52,7 @@ pub fn calls() -> Vec<Call> {
     script.second_outputs();
     script.orders();
     script.words();
+    script.cell_0_values();
     script.calls
 }
 
@@ -70,6 +74,22 @@ impl Script {
     fn page_with(&mut self, entry: Entry, page: &[u8], length: usize) {
         let other = self.random.bytes(length);
         self.page(entry, page, other);
+    }
+
+    /// Writes the values on a blank page, reads them back into an output of this length, and measures the page; returns
+    /// the page.
+    fn first_round(&mut self, values: &[u32; WORDS], output: usize) -> Vec<u8> {
+        let first = self.page(Entry::WriteFirst, &[0; PAGE_BYTES], first_record(values));
+        self.page_with(Entry::ReadFirst, &first, output);
+        self.page_with(Entry::PageCapacity, &first, 0);
+        first
+    }
+
+    /// Writes any record of the one length over the page, and reads it back into an output of the other.
+    fn second_round(&mut self, first: &[u8], length: usize, output: usize) {
+        let record = self.random.bytes(length);
+        let second = self.page(Entry::Rewrite, first, record);
+        self.page_with(Entry::ReadSecond, &second, output);
     }
 
     fn word(&mut self, word: u64) {
@@ -94,9 +114,7 @@ impl Script {
     /// Every unmarked value of document 01's list.
     fn listed_pages(&mut self) {
         for (value, most) in [(0, 126), (SPARSE_VALUE, 82)] {
-            let page = self.page(Entry::WriteFirst, &[0; PAGE_BYTES], first_record(&[value; WORDS]));
-            self.page_with(Entry::ReadFirst, &page, FIRST_BYTES);
-            self.page_with(Entry::PageCapacity, &page, 0);
+            let page = self.first_round(&[value; WORDS], FIRST_BYTES);
             for record in [vec![0xFF; most], vec![0xFF; most + 1], Vec::new(), vec![0]] {
                 let length = record.len();
                 let after = self.page(Entry::Rewrite, &page, record);
@@ -109,14 +127,10 @@ impl Script {
     fn both_rounds(&mut self) {
         for turn in 0..20 {
             let values = if turn == 0 { [EDGE_VALUE; WORDS] } else { any_values(&mut self.random) };
-            let first = self.page(Entry::WriteFirst, &[0; PAGE_BYTES], first_record(&values));
-            self.page_with(Entry::ReadFirst, &first, FIRST_BYTES + turn % 3);
-            self.page_with(Entry::PageCapacity, &first, 0);
+            let first = self.first_round(&values, FIRST_BYTES + turn % 3);
             let most = most_bytes(&first);
             let length = [most, 0, 1, most - 1, self.random.between(2, most)][turn % 5];
-            let record = self.random.bytes(length);
-            let second = self.page(Entry::Rewrite, &first, record);
-            self.page_with(Entry::ReadSecond, &second, [length, length + 1, 126 + turn][turn % 3]);
+            self.second_round(&first, length, [length, length + 1, 126 + turn][turn % 3]);
         }
     }
 
@@ -128,9 +142,7 @@ impl Script {
             let first = first_page(&values);
             let most = most_bytes(&first);
             self.page_with(Entry::Rewrite, &first, most + 1);
-            let record = self.random.bytes(most);
-            let second = self.page(Entry::Rewrite, &first, record);
-            self.page_with(Entry::ReadSecond, &second, most);
+            self.second_round(&first, most, most);
         }
     }
 
@@ -288,6 +300,15 @@ impl Script {
             self.add(if turn % 4 == 0 { encode } else { word });
         }
     }
+
+    /// The value of cell 0 alone and its neighbours: each by itself, and all on one page through both rounds.
+    fn cell_0_values(&mut self) {
+        CELL_0_VALUES.into_iter().for_each(|value| self.value(value));
+        let values = std::array::from_fn(|index| CELL_0_VALUES[index % CELL_0_VALUES.len()]);
+        let first = self.first_round(&values, FIRST_BYTES);
+        let most = most_bytes(&first);
+        self.second_round(&first, most, most);
+    }
 }
 
 /// The binary file: for each call a header of 13 bytes, the page, and the other buffer.
@@ -333,11 +354,50 @@ mod tests {
     #[test]
     fn size_and_variety() {
         let calls = calls();
-        assert_eq!(calls.len(), 646);
+        assert_eq!(calls.len(), 663);
         assert!(text_of(&calls).len() < 250_000);
         assert!(calls.iter().all(|call| call.page.len().max(call.other.len()) <= LENGTH_MOST));
         let pages: HashSet<_> = calls.iter().map(|call| &call.page).filter(|page| page.len() == PAGE_BYTES).collect();
-        assert_eq!(pages.len(), 297);
+        assert_eq!(pages.len(), 299);
+    }
+
+    /// "cell 0 is worth 2971215073": that value and its neighbours, each with its word, its filled word and its capacity.
+    const ABOUT_CELL_0: [(u32, u64, u64, u64); 3] = [
+        (2_971_215_072, 0x1555_5555_5555, 0x1555_5555_5555, 22),
+        (2_971_215_073, 0x2000_0000_0000, 0x2AAA_AAAA_AAAA, 23),
+        (2_971_215_074, 0x2000_0000_0001, 0x2AAA_AAAA_AAA9, 22),
+    ];
+
+    #[test]
+    fn words_about_the_weight_of_cell_0() {
+        let met: Vec<_> = calls().into_iter().map(|mut call| (call.entry, call.argument, call.perform())).collect();
+        for (value, word, filled, capacity) in ABOUT_CELL_0 {
+            let value = u64::from(value);
+            let encode = (Entry::EncodeWord, value, Ok(word));
+            let decode = (Entry::DecodeWord, word, Ok(value));
+            let fill = (Entry::FillWord, word, Ok(filled));
+            let measure = (Entry::WordCapacity, word, Ok(capacity));
+            for one in [encode, decode, fill, measure] {
+                assert!(met.contains(&one), "never {one:?}");
+            }
+        }
+    }
+
+    /// One page holds all three, and goes through both rounds.
+    #[test]
+    fn a_page_about_the_weight_of_cell_0() {
+        let calls = calls();
+        let holds = |call: &Call, value: u32| call.other.chunks(4).any(|four| four == value.to_be_bytes());
+        let holds_all = |call: &Call| ABOUT_CELL_0.iter().all(|&(value, ..)| holds(call, value));
+        let starts = |turns: &&[Call]| turns[0].entry == Entry::WriteFirst && holds_all(&turns[0]);
+        let before = calls.windows(5).find(starts).expect("a first record with all three values");
+        let mut after = before.to_vec();
+        let answers: Vec<_> = after.iter_mut().map(Call::perform).collect();
+        assert!(before.iter().map(|call| call.entry).eq(Entry::OF_PAGES));
+        assert_eq!(answers, [Ok(0), Ok(0), Ok(983), Ok(0), Ok(122)]);
+        // Each call takes the page that the call before it leaves, and both records are read back.
+        assert!((1..5).all(|turn| before[turn].page == after[turn - 1].page));
+        assert_eq!((&after[1].other, &after[4].other), (&before[0].other, &before[3].other));
     }
 
     /// Each entry is accepted, and refused by each of its numbers.
