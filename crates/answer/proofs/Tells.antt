@@ -9,7 +9,7 @@ use native.Mathlib.Omega.{arith}
 use borrow.Author.Tests.{leb-true, leb-false, ltb-true, ltb-false, eqb-true, eqb-false, not-true, not-false}
 use lib.Dec.{T, eqb, leb, ltb}
 use Rattle.cells.proofs.Tests.{holds}
-use Rattle.answer.specs.Answer.{Answer, result, refusal, Check, refuse, answer, numbers, among}
+use Rattle.answer.specs.Answer.{result, refusal, Check, refuse, answer, numbers, among}
 use Rattle.answer.proofs.Chains.{no-other}
 
 -- ---- tests

@@ -1,4 +1,4 @@
--- Cells that are kept: over rows of cells, over words with second bits, over a page that is rewritten, and as bits of a page's bytes.
+-- Cells that are kept: over words with second bits, and over a page that is rewritten.
 -- Assumes nothing.
 use mathlib.Core.Bool.{Bool, false}
 use mathlib.Core.List.{List, [], _∷_, _++_}
@@ -21,12 +21,6 @@ use Rattle.rows.specs.Page.{Shape, fillAll, putAll}
 use Rattle.rows.proofs.EachWord.{Each, Row}
 use Rattle.rows.proofs.SecondWords.{row-rewritten}
 use Rattle.demands.proofs.Laid.{Sound, laid, laid-bits}
-
--- ---- rows, one after another
-
--- ---- the cells of a page, as bits of its bytes
-
--- ---- second bits clear no cell
 
 kept-putAll : (ws : List (List Bool)) (l : List Bool) → Each sparse ws → T (kept (join ws) (join (putAll (fillAll ws) l)))
 unfolding join putAll fillAll kept put fill

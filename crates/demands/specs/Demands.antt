@@ -1,6 +1,6 @@
--- The customer's three demands, clause by clause, in document 01's terms. proofs/Demands.antt proves each. The contracts in src/ tie the
--- running code to `decodeAnswer`, `writeFirstAnswer`, `writeFirstLeaves` and their kin (Answer.antt): what each operation answers, and what
--- each buffer holds afterwards, for every value, word, page, record and output.
+-- The customer's three demands, clause by clause, in document 01's terms. proofs/Demands.antt proves each. The contracts in src/ of word, page,
+-- second and wom tie the running code to `decodeAnswer`, `writeFirstAnswer`, `writeFirstLeaves` and the others of specs/Answer.antt in word,
+-- page and second: what each operation answers, and what each buffer holds afterwards, for every value, word, page, record and output.
 --
 -- How to read a clause:
 --   (w : ℕ) →              for every word w, held as a number: its cells are `cells 46 w`, cell 0 first
@@ -29,9 +29,10 @@ use Rattle.word.specs.Word.{sum, legalWord, zeckendorf}
 use Rattle.word.specs.Fill.{fill, setBeforeLast, wellFormed}
 use Rattle.word.specs.Answer.{encodeAnswer, decodeAnswer, fillAnswer, capacityAnswer}
 use Rattle.word.specs.Claims.{WordRefusals}
-use Rattle.rows.specs.Page.{page256, state, byte1, byte2, blankOf, FirstRoundOf, SecondRoundOf, FitsOf, outcomeOf, fillAll, capacityAll}
-use Rattle.page.specs.Terms.{SizedOf, SecondHeaderOf, AllPassOf, LowestBadOf, secondBitsOf, FirstRefusalsOf}
+use Rattle.rows.specs.Page.{page256, state, byte1, byte2, blankOf, FirstRoundOf, SecondRoundOf, FitsOf, outcomeOf, fillAll, capacityAll, secondBitsOf}
+use Rattle.page.specs.Terms.{SizedOf, AllPassOf, LowestBadOf, FirstRefusalsOf}
 use Rattle.page.specs.Answer.{writeFirstAnswer, writeFirstLeaves, readFirstAnswer, readFirstLeaves, pageCapacityAnswer}
+use Rattle.second.specs.Terms.{SecondHeaderOf}
 use Rattle.second.specs.Answer.{rewriteAnswer, rewriteLeaves, readSecondAnswer, readSecondLeaves}
 
 -- ---- document 01's page: the shape of 256 bytes, 44 words, a first record of 176 bytes and a second of at most 126

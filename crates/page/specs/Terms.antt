@@ -4,13 +4,13 @@ use mathlib.Core.Bool.{Bool, false}
 use mathlib.Core.List.{List}
 use mathlib.Core.Logic.{_↔_, _⊎_}
 use mathlib.Core.Path.{_≡_}
-use Prim.Native.Nat.{ℕ, _≤_, _<_}
+use Prim.Native.Nat.{ℕ, _<_}
 use lib.Dec.{T}
 use lib.ListN.{length}
 use Rattle.answer.specs.Answer.{Answer, refusal}
-use Rattle.window.specs.Words.{wordAt, pageWords}
+use Rattle.window.specs.Words.{wordAt}
 use Rattle.word.specs.Word.{legal}
-use Rattle.rows.specs.Page.{Shape, state, byte1, byte2, readAll}
+use Rattle.rows.specs.Page.{Shape, state, byte1, byte2}
 
 abbrev pub SizedOf : Shape → List ℕ → Type 0
 SizedOf s P = length P ≡ s .size
@@ -19,10 +19,6 @@ SizedOf s P = length P ≡ s .size
 abbrev pub FirstHeaderOf : Shape → List ℕ → Type 0
 FirstHeaderOf s P = SizedOf s P × (state P ≡ 1) × (byte1 P ≡ 0) × (byte2 P ≡ 0)
 
--- ... of a second-round page
-abbrev pub SecondHeaderOf : Shape → List ℕ → Type 0
-SecondHeaderOf s P = SizedOf s P × (state P ≡ 7) × (byte1 P ≤ s .secondBytes) × (byte2 P ≡ 0)
-
 -- every word passes a test
 abbrev pub AllPassOf : Shape → (List Bool → Bool) → List ℕ → Type 0
 AllPassOf s test P = (j : ℕ) → j < s .words → T (test (wordAt P j))
@@ -30,10 +26,6 @@ AllPassOf s test P = (j : ℕ) → j < s .words → T (test (wordAt P j))
 -- word i does not pass a test, and every word before it does
 abbrev pub LowestBadOf : Shape → (List Bool → Bool) → List ℕ → ℕ → Type 0
 LowestBadOf s test P i = (i < s .words) × (test (wordAt P i) ≡ false) × ((j : ℕ) → j < i → T (test (wordAt P j)))
-
--- what the data cells of a second-round page hold: those that reading back finds
-abbrev pub secondBitsOf : Shape → List ℕ → List Bool
-secondBitsOf s P = readAll (pageWords P (s .words))
 
 -- "1 if the page is not 256 bytes", "5 if the state is not 01, 6 if byte 1 or byte 2 is not 0, 7 with the lowest index (0 to 43) of a word that
 -- is not legal": the refusals that the answers of read first, page capacity and rewrite share. The index is 0 where the document names none

@@ -8,7 +8,7 @@ use native.Mathlib.Omega.{arith}
 use lib.ListN.{length, take, drop, length-append}
 use lib.Seq.{drop-drop, drop-at, take-at, take-all}
 use Rattle.cells.specs.Cells.{fit, someSet}
-use Rattle.cells.specs.Bytes.{bits, bytes}
+use Rattle.cells.specs.Bytes.{bits}
 use Rattle.cells.proofs.Fits.{fit-spare, length-fit, fit-add, fit-take}
 use Rattle.window.specs.Words.{Words}
 use Rattle.word.specs.Fill.{fill, read, capacity, put}
@@ -72,10 +72,6 @@ Words-putAll (w ∷ ws) l h = (length-put false w l ∙ h .0, Words-putAll ws (d
 pub row-rewritten : (n : ℕ) (ws : List (List Bool)) (l : List Bool) → Row n ws → Row n (putAll (fillAll ws) l)
 row-rewritten n ws l r =
     (length-putAll (fillAll ws) l ∙ length-fillAll ws ∙ r .0, Words-putAll (fillAll ws) l (Words-fillAll ws (r .1)))
-
--- ---- n bits of some bits
-
--- ---- bytes of bits
 
 -- ---- putting and reading
 

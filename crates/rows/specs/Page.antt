@@ -1,5 +1,5 @@
--- The page (document 01, the section of that name). A page is its list of bytes. The definitions are over a shape of page, or over the number
--- n of its words; document 01's page is the shape `page256`.
+-- The page (document 01, the section of that name). A page is its list of bytes. The definitions are over a shape of page, or over what of
+-- it they need; document 01's page is the shape `page256`.
 -- Assumes nothing.
 use mathlib.Core.Bool.{Bool, cond, _&&_, false}
 use mathlib.Core.List.{List, [], _∷_, _++_}
@@ -93,9 +93,13 @@ putAll (w ∷ ws) l = put w l ∷ putAll ws (drop (length (read w)) l)
 unfoldable pub outcomeOf : Shape → List ℕ → List ℕ → List ℕ
 outcomeOf s page bs = putWords (7 ∷ length bs ∷ drop 2 page) (putAll (fillAll (pageWords page (s .words))) (bits bs))
 
+-- what the data cells of a second-round page hold: those that reading back finds
+abbrev pub secondBitsOf : Shape → List ℕ → List Bool
+secondBitsOf s page = readAll (pageWords page (s .words))
+
 -- the record that a second-round page holds: as many bytes as byte 1 says, from the data cells
 unfoldable pub secondRecord : Shape → List ℕ → List ℕ
-secondRecord s page = bytes (byte1 page) (readAll (pageWords page (s .words)))
+secondRecord s page = bytes (byte1 page) (secondBitsOf s page)
 
 -- ---- terms of document 01
 
@@ -121,8 +125,8 @@ pub record SecondRoundOf (s : Shape) (page : List ℕ) : Type 0 where
   pub byte1-most : byte1 page ≤ s .secondBytes
   pub byte2-zero : byte2 page ≡ 0
   pub words-formed : (i : ℕ) → i < s .words → T (wellFormed (wordAt page i))
-  pub cells-enough : 8 * byte1 page ≤ length (readAll (pageWords page (s .words)))
-  pub spare-zero : someSet (drop (8 * byte1 page) (readAll (pageWords page (s .words)))) ≡ false
+  pub cells-enough : 8 * byte1 page ≤ length (secondBitsOf s page)
+  pub spare-zero : someSet (drop (8 * byte1 page) (secondBitsOf s page)) ≡ false
 
 -- the term "fits": 8 times the record's length in bytes is at most the page's capacity
 pub record FitsOf (s : Shape) (bs page : List ℕ) : Type 0 where

@@ -14,10 +14,11 @@ use Rattle.answer.specs.Answer.{result, refusal, Check, refuse, answer, numbers
 use Rattle.answer.proofs.Tells.{Tells, unequal, less, itself, either, just, later, taken, nothing-left, flat3, flat4}
 use Rattle.window.specs.Words.{pageWords}
 use Rattle.word.specs.Fill.{wellFormed}
-use Rattle.rows.specs.Page.{Shape, state, byte1, byte2, capacityAll, FirstRoundOf, SecondRoundOf}
-use Rattle.page.specs.Terms.{SizedOf, SecondHeaderOf, AllPassOf, LowestBadOf, FirstRefusalsOf, secondBitsOf}
+use Rattle.rows.specs.Page.{Shape, state, byte1, byte2, capacityAll, FirstRoundOf, SecondRoundOf, secondBitsOf}
+use Rattle.page.specs.Terms.{SizedOf, AllPassOf, LowestBadOf, FirstRefusalsOf}
 use Rattle.page.proofs.FirstAnswers.{first-refusals, first-later, first-taken}
 use Rattle.page.proofs.Headed.{headed-1, headed-5, headed-6, headed-later, headed-taken, word-7, word-later, word-taken}
+use Rattle.second.specs.Terms.{SecondHeaderOf}
 use Rattle.second.specs.Answer.{rewriteChecks, secondChecks, readSecondChecks}
 
 -- ---- rewrite

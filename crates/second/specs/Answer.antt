@@ -11,8 +11,7 @@ use Rattle.cells.specs.Bytes.{atStart}
 use Rattle.answer.specs.Answer.{Answer, result, refusal, Check, refuse, answer, after}
 use Rattle.window.specs.Words.{pageWords}
 use Rattle.word.specs.Fill.{wellFormed}
-use Rattle.rows.specs.Page.{Shape, page256, state, byte1, byte2, capacityAll, outcomeOf, secondRecord}
-use Rattle.page.specs.Terms.{secondBitsOf}
+use Rattle.rows.specs.Page.{Shape, page256, state, byte1, byte2, capacityAll, outcomeOf, secondRecord, secondBitsOf}
 use Rattle.page.specs.Answer.{refuseWord, firstChecks}
 use Rattle.second.specs.declared.Rewritten.{Rewritten}
 use Rattle.second.specs.declared.Rewritten.the-variants as rewritten

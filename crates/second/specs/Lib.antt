@@ -1,2 +1,3 @@
 -- What the operations on a second record answer and leave.
+pub mod Terms
 pub mod Answer

@@ -9,8 +9,7 @@ use Rattle.answer.proofs.Chains.{still-refused, both-refused, both-done}
 use Rattle.window.proofs.Words.{length-putWords}
 use Rattle.word.specs.Word.{legal}
 use Rattle.rows.specs.Page.{lowest, page256, FirstRoundOf}
-use Rattle.page.specs.Answer.{firstChecks}
-use Rattle.page.specs.Steps.{firstCheckCode}
+use Rattle.page.specs.Answer.{firstChecks, firstCheckCode}
 use Rattle.page.proofs.Headed.{all-words}
 use Rattle.page.proofs.FirstAnswers.{check-taken}
 use Rattle.second.specs.Answer.{rewriteChecks}

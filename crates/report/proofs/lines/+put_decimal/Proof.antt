@@ -1,3 +1,4 @@
+-- `report::lines::put_decimal` meets its contract: by its own for a tenth of the number, and the last digit. Assumes nothing.
 use mathlib.Core.List.{List}
 use mathlib.Core.Path.{_≡_, sym, ap, _∙_}
 use Prim.Native.Nat.{ℕ, _+_, _/_, _%_, _<_}
