@@ -1,7 +1,7 @@
 -- Laws of a list of checks, and of what an answer leaves in a buffer.
 -- Assumes nothing.
 use mathlib.Core.Bool.{Bool, true, false, _||_}
-use mathlib.Core.List.{List, [], _∷_, _++_}
+use mathlib.Core.List.{List, [], _∷_, _++_, append-nil}
 use mathlib.Core.Logic.{_↔_}
 use mathlib.Core.Path.{_≡_, refl, sym, ap, _∙_, subst}
 use Prim.Native.Nat.{ℕ, _^_, _<_}
@@ -33,10 +33,7 @@ still-refused (refuse true m j ∷ cs) ds x y n i e = e
 still-refused (refuse false m j ∷ cs) ds x y n i e = still-refused cs ds x y n i e
 
 pub same-refusal : (cs : List Check) (x y n i : ℕ) → answer cs x ≡ refusal n i → answer cs y ≡ refusal n i
-unfolding answer
-same-refusal [] x y n i e = let z : _≡_ {A = ℕ} 0 1 = cc in absurd (omega arith)
-same-refusal (refuse true m j ∷ cs) x y n i e = e
-same-refusal (refuse false m j ∷ cs) x y n i e = same-refusal cs x y n i e
+same-refusal cs x y n i e = subst (λ (ds : List Check). answer ds y ≡ refusal n i) (append-nil cs) (still-refused cs [] x y n i e)
 
 -- a last check whose condition does not hold
 pub last-passed : (cs : List Check) (b : Bool) (n i x : ℕ) → b ≡ false → answer (cs ++ (refuse b n i ∷ [])) x ≡ answer cs x

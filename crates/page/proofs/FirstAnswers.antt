@@ -16,15 +16,11 @@ use Rattle.rows.specs.Page.{Shape, byte1, byte2, blankOf, FirstRoundOf}
 use Rattle.rows.proofs.Blank.{length-blank, not-blank}
 use Rattle.page.specs.Terms.{SizedOf, FirstHeaderOf, AllPassOf, FirstRefusalsOf}
 use Rattle.page.specs.Answer.{writeFirstChecks, firstChecks, readFirstChecks}
-use Rattle.page.proofs.Headed.{headed-1, headed-5, headed-6, headed-later, headed-taken, word-7, word-later, word-taken}
+use Rattle.page.proofs.Headed.{not-sized, headed-1, headed-5, headed-6, headed-later, headed-taken, word-7, word-later, word-taken}
 
 -- ---- write first
 
 module _ (s : Shape) (P D : List ℕ) where
-  -- the page and the data have other lengths than theirs
-  not-sized : Tells (not (eqb (length P) (s .size))) (¬ SizedOf s P) (SizedOf s P)
-  not-sized = unequal (length P) (s .size)
-
   other-length : Tells (not (eqb (length D) (s .firstBytes))) (¬ (length D ≡ s .firstBytes)) (length D ≡ s .firstBytes)
   other-length = unequal (length D) (s .firstBytes)
 
@@ -32,25 +28,25 @@ module _ (s : Shape) (P D : List ℕ) where
   unfolding writeFirstChecks
   write-first v =
       Iff·trans
-      (taken not-sized 1 0 _ 0 v (taken other-length 2 0 _ 0 v (taken (not-blank P) 4 0 _ 0 v (nothing-left 0 v)))) (
+      (taken (not-sized s P) 1 0 _ 0 v (taken other-length 2 0 _ 0 v (taken (not-blank P) 4 0 _ 0 v (nothing-left 0 v)))) (
         λ h. (h .1 .1 .0 ∙ ap blankOf (h .0), h .1 .0, h .1 .1 .1),
         λ h. let l = ap length (h .0) ∙ length-blank (s .size) in (l, (h .1, (h .0 ∙ ap blankOf (sym l), h .2))),
       )
 
   pub write-first-1 : (i : ℕ) → (answer (writeFirstChecks s P D) 0 ≡ refusal 1 i) ↔ (¬ SizedOf s P × (i ≡ 0))
   unfolding writeFirstChecks numbers among
-  write-first-1 i = just not-sized 1 0 _ 0 refl i
+  write-first-1 i = just (not-sized s P) 1 0 _ 0 refl i
 
   pub write-first-2 : (i : ℕ) → (answer (writeFirstChecks s P D) 0 ≡ refusal 2 i) ↔ (SizedOf s P × ¬ (length D ≡ s .firstBytes) × (i ≡ 0))
   unfolding writeFirstChecks numbers among
-  write-first-2 i = Iff·trans (later not-sized 1 0 _ 0 2 i (λ e. omega arith) (just other-length 2 0 _ 0 refl i)) flat3
+  write-first-2 i = Iff·trans (later (not-sized s P) 1 0 _ 0 2 i (λ e. omega arith) (just other-length 2 0 _ 0 refl i)) flat3
 
   pub write-first-4 : (i : ℕ) → (answer (writeFirstChecks s P D) 0 ≡ refusal 4 i)
       ↔ (SizedOf s P × (length D ≡ s .firstBytes) × ¬ (P ≡ blankOf (s .size)) × (i ≡ 0))
   unfolding writeFirstChecks numbers among
   write-first-4 i =
       Iff·trans
-      (later not-sized 1 0 _ 0 4 i (λ e. omega arith) (later other-length 2 0 _ 0 4 i (λ e. omega arith) (just (not-blank P) 4 0 _ 0 refl i))) (
+      (later (not-sized s P) 1 0 _ 0 4 i (λ e. omega arith) (later other-length 2 0 _ 0 4 i (λ e. omega arith) (just (not-blank P) 4 0 _ 0 refl i))) (
         λ h. (h .0, h .1 .0, λ e. h .1 .1 .0 (e ∙ ap blankOf (sym (h .0))), h .1 .1 .1),
         λ h. (h .0, (h .1, (λ e. h .2 (e ∙ ap blankOf (h .0)), h .3))),
       )

@@ -21,10 +21,17 @@ use Rattle.page.specs.Answer.{refuseWord}
 
 -- ---- 1, 5 for a state other than k, 6 by a test r, then other checks
 
-module _ (s : Shape) (P : List ℕ) (k : ℕ) {r : Bool} {E F G : Type 0} (u : Tells r E (F × G)) (cs : List Check) (x : ℕ) where
-  not-sized : Tells (not (eqb (length P) (s .size))) (¬ SizedOf s P) (SizedOf s P)
-  not-sized = unequal (length P) (s .size)
+pub not-sized : (s : Shape) (P : List ℕ) → Tells (not (eqb (length P) (s .size))) (¬ SizedOf s P) (SizedOf s P)
+not-sized s P = unequal (length P) (s .size)
 
+-- the conditions of these three, then another
+headed-parts : {A B C D X : Type 0} → (A × (B × ((C × D) × X))) ↔ ((A × B × C × D) × X)
+headed-parts = (
+  λ h. ((h .0, h .1 .0, h .1 .1 .0 .0, h .1 .1 .0 .1), h .1 .1 .1),
+  λ h. (h .0 .0, (h .0 .1, ((h .0 .2, h .0 .3), h .1))),
+)
+
+module _ (s : Shape) (P : List ℕ) (k : ℕ) {r : Bool} {E F G : Type 0} (u : Tells r E (F × G)) (cs : List Check) (x : ℕ) where
   other-state : Tells (not (eqb (state P) k)) (¬ (state P ≡ k)) (state P ≡ k)
   other-state = unequal (state P) k
 
@@ -33,17 +40,17 @@ module _ (s : Shape) (P : List ℕ) (k : ℕ) {r : Bool} {E F G : Type 0} (u : T
 
   pub headed-1 : among 1 (numbers cs) ≡ false → (i : ℕ) → (answer headed x ≡ refusal 1 i) ↔ (¬ SizedOf s P × (i ≡ 0))
   unfolding numbers among
-  headed-1 f i = just not-sized 1 0 _ x f i
+  headed-1 f i = just (not-sized s P) 1 0 _ x f i
 
   pub headed-5 : among 5 (numbers cs) ≡ false → (i : ℕ) → (answer headed x ≡ refusal 5 i) ↔ (SizedOf s P × ¬ (state P ≡ k) × (i ≡ 0))
   unfolding numbers among
-  headed-5 f i = Iff·trans (later not-sized 1 0 _ x 5 i (λ e. omega arith) (just other-state 5 0 _ x f i)) flat3
+  headed-5 f i = Iff·trans (later (not-sized s P) 1 0 _ x 5 i (λ e. omega arith) (just other-state 5 0 _ x f i)) flat3
 
   pub headed-6 : among 6 (numbers cs) ≡ false → (i : ℕ) → (answer headed x ≡ refusal 6 i) ↔ (SizedOf s P × (state P ≡ k) × E × (i ≡ 0))
   unfolding numbers among
   headed-6 f i =
       Iff·trans
-      (later not-sized 1 0 _ x 6 i (λ e. omega arith)
+      (later (not-sized s P) 1 0 _ x 6 i (λ e. omega arith)
       (Iff·trans (later other-state 5 0 _ x 6 i (λ e. omega arith) (just u 6 0 _ x f i)) flat3))
       flat4
 
@@ -52,19 +59,15 @@ module _ (s : Shape) (P : List ℕ) (k : ℕ) {r : Bool} {E F G : Type 0} (u : T
       → (answer headed x ≡ refusal n i) ↔ ((SizedOf s P × (state P ≡ k) × F × G) × X)
   headed-later n i d e =
       Iff·trans
-      (later not-sized 1 0 _ x n i (d .0) (later other-state 5 0 _ x n i (d .1) (later u 6 0 _ x n i (d .2) e))) (
-        λ h. ((h .0, h .1 .0, h .1 .1 .0 .0, h .1 .1 .0 .1), h .1 .1 .1),
-        λ h. (h .0 .0, (h .0 .1, ((h .0 .2, h .0 .3), h .1))),
-      )
+      (later (not-sized s P) 1 0 _ x n i (d .0) (later other-state 5 0 _ x n i (d .1) (later u 6 0 _ x n i (d .2) e)))
+      headed-parts
 
   pub headed-taken : {X : Type 0} (v : ℕ) → (answer cs x ≡ result v) ↔ X
       → (answer headed x ≡ result v) ↔ ((SizedOf s P × (state P ≡ k) × F × G) × X)
   headed-taken v e =
       Iff·trans
-      (taken not-sized 1 0 _ x v (taken other-state 5 0 _ x v (taken u 6 0 _ x v e))) (
-        λ h. ((h .0, h .1 .0, h .1 .1 .0 .0, h .1 .1 .0 .1), h .1 .1 .1),
-        λ h. (h .0 .0, (h .0 .1, ((h .0 .2, h .0 .3), h .1))),
-      )
+      (taken (not-sized s P) 1 0 _ x v (taken other-state 5 0 _ x v (taken u 6 0 _ x v e)))
+      headed-parts
 
 -- ---- 7 by a test of the words, then other checks
 
