@@ -1,5 +1,7 @@
 #include "plain.h"
 
+#include <string.h>
+
 /* ---- Words ------------------------------------------------------------- */
 
 static const uint32_t weights[46] = {
@@ -312,4 +314,44 @@ uint64_t plain_read_second(const uint8_t *page, size_t page_length,
     for (i = 0; i < page[1]; i++)
         out[i] = record[i];
     return page[1];
+}
+
+/* ---- Transfer files ---------------------------------------------------- */
+
+#define MOST_PAGES 64
+
+/* Returns where the next field goes. */
+static uint8_t *put_field(uint8_t *out, uint8_t tag, const uint8_t *contents,
+                          size_t length)
+{
+    out[0] = tag;
+    out[1] = (uint8_t)(length >> 8);
+    out[2] = (uint8_t)length;
+    memcpy(out + 3, contents, length);
+    return out + 3 + length;
+}
+
+uint64_t plain_write_file(uint32_t device,
+                          const uint8_t *pages, size_t pages_length,
+                          uint8_t *out, size_t out_length)
+{
+    const uint8_t number[4] = {
+        (uint8_t)(device >> 24), (uint8_t)(device >> 16),
+        (uint8_t)(device >> 8), (uint8_t)device,
+    };
+    size_t count = pages_length / PAGE;
+    uint8_t *next;
+    size_t i;
+
+    if (pages_length % PAGE != 0 || count > MOST_PAGES)
+        return refuse(13, 0);
+    if (out_length < 12 + (3 + PAGE) * count)
+        return refuse(3, 0);
+    out[0] = 0xf1;
+    out[1] = 0xb0;
+    next = put_field(out + 2, 0x02, number, sizeof number);
+    for (i = 0; i < count; i++)
+        next = put_field(next, 0x01, pages + PAGE * i, PAGE);
+    next = put_field(next, 0x7f, number, 0);
+    return (uint64_t)(next - out);
 }

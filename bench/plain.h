@@ -1,11 +1,13 @@
 /*
- * plain.h - the word and page operations in plain C: what the library's
- * instruction counts are held against
+ * plain.h - the library's operations in plain C: what its instruction counts
+ * are held against
  *
- * Loops that go cell by cell, as the rules are told, compiled by gcc -O2 (the
- * flags stand in bench/run). No table but the weights, nothing done for a whole
- * byte or word at a time, nothing tuned: a first writing of the rules in C, not
- * the best that C can do.
+ * Words and pages: loops that go cell by cell, as the rules are told, compiled
+ * by gcc -O2 (the flags stand in bench/run). No table but the weights, nothing
+ * done for a whole byte or word at a time, nothing tuned: a first writing of
+ * the rules in C, not the best that C can do.
+ *
+ * Transfer files: the pages are copied by memcpy, many bytes at a time.
  */
 #ifndef PLAIN_H
 #define PLAIN_H
@@ -27,5 +29,9 @@ uint64_t plain_rewrite(uint8_t *page, size_t page_length,
                        const uint8_t *record, size_t record_length);
 uint64_t plain_read_second(const uint8_t *page, size_t page_length,
                            uint8_t *out, size_t out_length);
+
+uint64_t plain_write_file(uint32_t device,
+                          const uint8_t *pages, size_t pages_length,
+                          uint8_t *out, size_t out_length);
 
 #endif /* PLAIN_H */

@@ -56,6 +56,19 @@
  * with these data cells put to 0, no cell of it could still be set by the
  * fill.
  *
+ * Transfer file. The pages of one device, 0 to 64 of them, are carried away in
+ * one file. It starts with the two bytes 0xF1 0xB0; then come fields, each a
+ * tag of one byte, a length of two bytes, the high byte first, and that many
+ * bytes of contents:
+ *
+ *     tag 0x02   4 bytes, the device number, the high byte first; once
+ *     tag 0x01   256 bytes, a page; one field for each page, in order
+ *     tag 0x7F   0 bytes; ends the file
+ *
+ * So a file of n pages has 12 + 259 n bytes: the device number stands in bytes
+ * 5 to 8, page i in the 256 bytes from byte 12 + 259 i on, and the last three
+ * bytes are 0x7F 0x00 0x00.
+ *
  * Answer. Every function returns one uint64_t, which is either a result or a
  * refusal:
  *
@@ -75,8 +88,8 @@
 #include <stdint.h>
 
 /* 10000 times the major number, 100 times the minor one, and the patch. */
-#define WOM_VERSION        10000
-#define WOM_VERSION_STRING "1.0.0"
+#define WOM_VERSION        10100
+#define WOM_VERSION_STRING "1.1.0"
 
 #ifdef __cplusplus
 extern "C" {
@@ -118,7 +131,8 @@ static inline uint64_t wom_index(uint64_t answer)
  * in which the function lists them. */
 #define WOM_REFUSED_PAGE_LENGTH   1 /* the page is not 256 bytes */
 #define WOM_REFUSED_DATA_LENGTH   2 /* the first record is not 176 bytes */
-#define WOM_REFUSED_OUTPUT_LENGTH 3 /* the output is shorter than the record */
+#define WOM_REFUSED_OUTPUT_LENGTH 3 /* the output is shorter than what goes in:
+                                       the record, or the file */
 #define WOM_REFUSED_NOT_BLANK     4 /* a byte of the page is not 0 */
 #define WOM_REFUSED_STATE         5 /* the page is not in the state asked for */
 #define WOM_REFUSED_HEADER        6 /* byte 1 or byte 2 is out of its range */
@@ -135,11 +149,15 @@ static inline uint64_t wom_index(uint64_t answer)
 #define WOM_REFUSED_SUM        12 /* the sum of the set weights exceeds
                                      4294967295 */
 
+/* The writing of a transfer file refuses with this, then with 3. */
+#define WOM_REFUSED_PAGES_LENGTH 13 /* the pages' bytes are no multiple of 256,
+                                       or more than 64 pages */
+
 /*! wom_refusal_name() :
  *  Takes a refusal's number, as wom_refusal() gives it; any number may be
  *  passed.
  * @return : a short text for a message, such as "page length"; "no refusal" for
- *           0, "unknown refusal" for a number above 12. */
+ *           0, "unknown refusal" for a number above 13. */
 static inline const char *wom_refusal_name(unsigned number)
 {
     switch (number) {
@@ -169,6 +187,8 @@ static inline const char *wom_refusal_name(unsigned number)
         return "neighbours";
     case WOM_REFUSED_SUM:
         return "sum";
+    case WOM_REFUSED_PAGES_LENGTH:
+        return "pages length";
     default:
         return "unknown refusal";
     }
@@ -394,6 +414,38 @@ uint64_t wom_rewrite(uint8_t *page, size_t page_length,
 WOM_MUST_USE
 uint64_t wom_read_second(const uint8_t *page, size_t page_length,
                          uint8_t *out, size_t out_length);
+
+/* ------------------------------------------------------------------------
+ *  Transfer files
+ *
+ *  Buffers are as for pages, and so is what the caller owes and what a refused
+ *  call leaves.
+ * ------------------------------------------------------------------------ */
+
+#define WOM_FILE_PAGES_MAX 64 /* the most pages of a transfer file */
+
+/* The size in bytes of a transfer file of n pages, 0 to 64; a constant where n
+ * is one. */
+#define WOM_FILE_BYTES(n) (12 + 259 * (size_t)(n))
+
+/*! wom_write_file() :
+ *  Writes the transfer file of a device and its pages.
+ *    device : the device number, any 32-bit value.
+ *    pages  : the pages, one after another, 256 bytes each, 0 to 64 of them.
+ *             They are copied as they are: any content goes in.
+ *    out    : receives the file in its first bytes; any bytes after those are
+ *             left as they are. What it held before does not matter.
+ * @return : the number of bytes written, WOM_FILE_BYTES(pages_length / 256);
+ *           or a refusal with index 0, the first of these that applies:
+ *             13 (WOM_REFUSED_PAGES_LENGTH)  if the pages' bytes are no
+ *                                            multiple of 256, or more than 64
+ *                                            pages,
+ *              3 (WOM_REFUSED_OUTPUT_LENGTH) if the output is shorter than the
+ *                                            file. */
+WOM_MUST_USE
+uint64_t wom_write_file(uint32_t device,
+                        const uint8_t *pages, size_t pages_length,
+                        uint8_t *out, size_t out_length);
 
 #ifdef __cplusplus
 }

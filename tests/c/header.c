@@ -1,7 +1,8 @@
 /*
- * Test of wom.h: its constants and functions, and each of the nine entries on
- * document 01's values and on calls that it refuses by each of its numbers.
- * Every expectation is a literal.
+ * Test of wom.h: its constants and functions, and nine of its ten entries, each
+ * on document 01's values and on calls that it refuses by each of its numbers.
+ * Every expectation is a literal. The tenth entry, wom_write_file, is tested by
+ * file.c.
  *
  *     header               all checks; exit status 0 when none is wrong, else 1
  *     header plant KIND    the same with one wrong expectation of that kind, so
@@ -50,6 +51,7 @@ static const struct {
     CONSTANT(WOM_REFUSED_HIGH_BIT, 10),
     CONSTANT(WOM_REFUSED_NEIGHBOURS, 11),
     CONSTANT(WOM_REFUSED_SUM, 12),
+    CONSTANT(WOM_REFUSED_PAGES_LENGTH, 13),
     CONSTANT(WOM_WORD_CELLS, 46),
     CONSTANT(WOM_PAGE_BYTES, 256),
     CONSTANT(WOM_HEADER_BYTES, 3),
@@ -60,7 +62,12 @@ static const struct {
     CONSTANT(WOM_STATE_BLANK, 0),
     CONSTANT(WOM_STATE_FIRST, 1),
     CONSTANT(WOM_STATE_SECOND, 7),
-    CONSTANT(WOM_VERSION, 10000),
+    CONSTANT(WOM_FILE_PAGES_MAX, 64),
+    CONSTANT(WOM_FILE_BYTES(0), 12),
+    CONSTANT(WOM_FILE_BYTES(1), 271),
+    CONSTANT(WOM_FILE_BYTES(1 + 1), 530),
+    CONSTANT(sizeof(uint8_t[WOM_FILE_BYTES(WOM_FILE_PAGES_MAX)]), 16588),
+    CONSTANT(WOM_VERSION, 10100),
 };
 
 static void check_constants(void)
@@ -90,7 +97,8 @@ static const struct {
     {10, "high bit"},
     {11, "neighbours"},
     {12, "sum"},
-    {13, "unknown refusal"},
+    {13, "pages length"},
+    {14, "unknown refusal"},
     {255, "unknown refusal"},
     {4294967295u, "unknown refusal"},
 };
@@ -109,7 +117,7 @@ static void check_texts(void)
         check_text(wom_refusal_name(texts[i].number), texts[i].expected);
     }
     in_case("WOM_VERSION_STRING", WOM_VERSION);
-    check_text(WOM_VERSION_STRING, "1.0.0");
+    check_text(WOM_VERSION_STRING, "1.1.0");
 }
 
 static const struct {
@@ -123,7 +131,7 @@ static const struct {
     {UINT64_C(0x0100000000000000), 1, 0},
     {UINT64_C(0x070000000000002b), 7, 43},
     {UINT64_C(0x08000000000003f4), 8, 1012},
-    {UINT64_C(0x0c00000000000000), 12, 0},
+    {UINT64_C(0x0d00000000000000), 13, 0},
     {UINT64_C(0x8000000000000000), 128, 0},
     {UINT64_MAX, 255, UINT64_C(0x00ffffffffffffff)},
 };

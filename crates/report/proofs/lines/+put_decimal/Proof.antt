@@ -1,5 +1,5 @@
 -- `report::lines::put_decimal` meets its contract: by its own for a tenth of the number, and the last digit. Assumes nothing.
-use mathlib.Core.List.{List}
+use mathlib.Core.List.{List, [], _∷_}
 use mathlib.Core.Path.{_≡_, sym, ap, _∙_}
 use Prim.Native.Nat.{ℕ, _+_, _/_, _%_, _<_}
 use native.Mathlib.Omega.{arith}
@@ -7,9 +7,9 @@ use borrow.Fn.Kinds.{In}
 use borrow.Fn.PlainCycle.{Measures, is, falls, and}
 use lib.ListN.{length, set}
 use lib.Seq.{sets}
+use Rattle.cells.proofs.Storing.{sets-then}
 use Rattle.report.specs.Lines.{decimal}
 use Rattle.report.proofs.Decimals.{decimal-below, decimal-from, decimal-longer}
-use Rattle.report.proofs.Storing.{sets-snoc}
 use Rattle.report.proofs.lines.put_decimal.Reads as put-decimal
 use Rattle.report.proofs.lines.put_decimal.Kinds as put-decimal-kinds
 use Rattle.report.proofs.lines.+put_decimal.Lts-put_decimal as put-decimal-lts
@@ -108,7 +108,7 @@ put-decimal-returns-2 t c =
     let h = c .before .before .if1 .left in (
       omega (arith, c .put-decimal .ensures .0, decimal-longer (a .n) h),
       ap (λ (l : List ℕ). set l (c .put-decimal .result) (48 + a .n % 10)) (c .put-decimal .ensures .1)
-          ∙ sets-snoc (a .line .now) (a .at) (decimal (a .n / 10)) (48 + a .n % 10) (c .put-decimal .result) (c .put-decimal .ensures .0)
+          ∙ sets-then (a .line .now) (a .at) (decimal (a .n / 10)) ((48 + a .n % 10) ∷ []) (c .put-decimal .result) (c .put-decimal .ensures .0)
           ∙ ap (sets (a .line .now) (a .at)) (sym (decimal-from (a .n) h)),
     )
 

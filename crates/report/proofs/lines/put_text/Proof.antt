@@ -6,7 +6,7 @@ use Prim.Native.Nat.{ℕ, _+_, _-_, _≤_}
 use native.Mathlib.Omega.{arith}
 use lib.ListN.{length, take, set, getD}
 use lib.Seq.{sets, take-length}
-use Rattle.report.proofs.Storing.{sets-turn}
+use Rattle.cells.proofs.Storing.{sets-turn}
 use Rattle.report.proofs.lines.put_text.Statement.{statement}
 use Rattle.report.proofs.lines.put_text.Tie as tie
 
