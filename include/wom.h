@@ -216,7 +216,7 @@ static inline const char *wom_refusal_name(unsigned number)
  *  In the archive as it is compiled now, these functions use xmm registers:
  *
  *      wom_encode_word  wom_decode_word  wom_fill_word  wom_word_capacity
- *      wom_write_first  wom_read_first  wom_read_second
+ *      wom_write_first  wom_read_first  wom_read_second  wom_write_file
  *
  *  No function uses more than 256 bytes of stack, or an instruction beyond
  *  those that every x86-64 processor has.

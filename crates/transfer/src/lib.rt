@@ -46,24 +46,14 @@ fn put_device(out: &mut [u8], device: u32)
     put_bytes(out, 5, 4, device as u64);
 }
 
-// Copies half a page from byte `from` on to byte k on. The compiler makes moves of 16 bytes of it; of a copy that is longer, or whose
-// length it does not know, it would make a call of the C library.
-fn copy_half(out: &mut [u8], k: usize, pages: &[u8], from: usize)
-    requires { ⌜ (k + 128 ≤ length (now out)) × (from + 128 ≤ length (now pages)) ⌝ }
-    ensures { λ _. ⌜ now (out .exit) ≡ sets (now (out .entry)) k (take 128 (drop from (now (pages .entry)))) ⌝ }
-{
-    for j in 0..128 {
-        out[k + j] = pages[from + j];
-    }
-}
-
-// Copies a page.
+// Copies a page, which starts at byte `from`, to byte k. It is compiled to moves of 16 bytes.
 fn copy_page(out: &mut [u8], k: usize, pages: &[u8], from: usize)
     requires { ⌜ (k + 256 ≤ length (now out)) × (from + 256 ≤ length (now pages)) ⌝ }
     ensures { λ _. ⌜ now (out .exit) ≡ sets (now (out .entry)) k (take 256 (drop from (now (pages .entry)))) ⌝ }
 {
-    copy_half(out, k, pages, from);
-    copy_half(out, k + 128, pages, from + 128);
+    for j in 0..256 {
+        out[k + j] = pages[from + j];
+    }
 }
 
 // Puts the fields of n pages, from byte 9 on.

@@ -1,12 +1,12 @@
 // Replays calls of the library from standard input, and writes what each one gives to standard output. The independent program under
 // tests/second makes both files.
 //
-// A call is a header of 13 bytes, then the page and the other buffer as they are before the call:
+// A call is a header of 13 bytes, then the page or pages and the other buffer as they are before the call:
 //
 //     byte 0         the entry: 0 encode word, 1 decode word, 2 fill word, 3 word capacity, 4 write first, 5 read first,
-//                    6 page capacity, 7 rewrite, 8 read second
-//     bytes 1 to 8   the argument of a word entry
-//     bytes 9, 10    the page's length, at most 1,024
+//                    6 page capacity, 7 rewrite, 8 read second, 9 write file
+//     bytes 1 to 8   the argument of a word entry, or write file's device number
+//     bytes 9, 10    the length of the page or pages, at most 1,024
 //     bytes 11, 12   the length of the other buffer (data, output or record), at most 1,024
 //
 // with the high byte of each number first. Its line is the call's index from 0, the entry, the refusal's number (0 for none) and the result
@@ -19,24 +19,30 @@ fn read_whole(buffer: &mut [u8]) -> bool {
     io::read_full(STDIN_FILENO, buffer) == buffer.len()
 }
 
+// A number's 32 low bits.
+fn low_half(argument: u64) -> u32 {
+    (argument % 4294967296) as u32
+}
+
 // The answer of a word entry.
 fn answer_word(entry: u8, argument: u64) -> u64 {
     match entry {
-        0 => wom::wom_encode_word((argument % 4294967296) as u32),
+        0 => wom::wom_encode_word(low_half(argument)),
         1 => wom::wom_decode_word(argument),
         2 => wom::wom_fill_word(argument),
         _ => wom::wom_word_capacity(argument),
     }
 }
 
-// The answer of a page entry.
-fn answer_page(entry: u8, page: &mut [u8], other: &mut [u8]) -> u64 {
+// The answer of an entry on a page or pages.
+fn answer_page(entry: u8, argument: u64, page: &mut [u8], other: &mut [u8]) -> u64 {
     match entry {
         4 => wom::wom_write_first(page, other),
         5 => wom::wom_read_first(page, other),
         6 => wom::wom_page_capacity(page),
         7 => wom::wom_rewrite(page, other),
-        _ => wom::wom_read_second(page, other),
+        8 => wom::wom_read_second(page, other),
+        _ => wom::wom_write_file(low_half(argument), page, other),
     }
 }
 
@@ -63,18 +69,18 @@ fn tell_bytes(buffer: &[u8]) {
     }
 }
 
-// Reads the buffers of a page entry, makes the call and writes its line but for the end; whether they were there.
-fn replay_page(index: u32, entry: u8, page: &mut [u8], other: &mut [u8]) -> bool {
+// Reads the buffers of an entry on a page or pages, makes the call and writes its line but for the end; whether they were there.
+fn replay_page(index: u32, entry: u8, argument: u64, page: &mut [u8], other: &mut [u8]) -> bool {
     if !read_whole(page) {
         return false;
     }
     if !read_whole(other) {
         return false;
     }
-    tell_answer(index, entry, answer_page(entry, page, other));
+    tell_answer(index, entry, answer_page(entry, argument, page, other));
     match entry {
         4 | 7 => tell_bytes(page),
-        5 | 8 => tell_bytes(other),
+        5 | 8 | 9 => tell_bytes(other),
         _ => {}
     }
     true
@@ -83,12 +89,12 @@ fn replay_page(index: u32, entry: u8, page: &mut [u8], other: &mut [u8]) -> bool
 // Makes one call by its header and writes its line; whether it is one.
 fn replay(index: u32, header: &[u8; 13]) -> bool {
     let entry = header[0];
+    let argument = (cells::four_bytes(header, 1) << 32) | cells::four_bytes(header, 5);
     if entry < 4 {
-        let argument = (cells::four_bytes(header, 1) << 32) | cells::four_bytes(header, 5);
         tell_answer(index, entry, answer_word(entry, argument));
         return true;
     }
-    if 8 < entry {
+    if 9 < entry {
         return false;
     }
     let lengths = cells::four_bytes(header, 9);
@@ -105,6 +111,7 @@ fn replay(index: u32, header: &[u8; 13]) -> bool {
     replay_page(
         index,
         entry,
+        argument,
         &mut page[..n as usize],
         &mut other[..m as usize],
     )

@@ -2,7 +2,7 @@
 -- Assumes nothing.
 use mathlib.Core.Bool.{Bool, false}
 use mathlib.Core.List.{List, [], _∷_, _++_}
-use Prim.Native.Nat.{ℕ, zero, suc, _*_, _^_, _≤_, _<_}
+use Prim.Native.Nat.{ℕ, zero, suc, _*_, _/_, _^_, _≤_, _<_}
 use native.Mathlib.Nat.{min-le-left}
 use native.Mathlib.Omega.{arith}
 use lib.Dec.{ltb}
@@ -26,6 +26,10 @@ use Rattle.rows.specs.Page.{page256, byte1, byte2, lowest, capacityAll}
 use Rattle.rows.proofs.Lowest.{lowest-le}
 use Rattle.page.specs.Answer.{writeFirstChecks, firstChecks, readFirstChecks}
 use Rattle.second.specs.Answer.{rewriteChecks, secondChecks, readSecondChecks}
+use Rattle.transfer.specs.File.{fileOf}
+use Rattle.transfer.specs.Answer.{writeFileChecks}
+use Rattle.transfer.proofs.Places.{length-file}
+use Rattle.transfer.proofs.FileAnswers.{not-carried}
 use Rattle.wom.specs.Claims.{WordAnswersFaithful, PageAnswersFaithful}
 
 -- ---- words
@@ -79,6 +83,14 @@ length-small P cs h =
     let k = either (less 126 (byte1 P)) (unequal (byte2 P) 0) .if-not (h .1 .1 .0) in
     omega (arith, k .0)
 
+-- a file's length: there are at most 64 pages where no check refuses
+file-small : (d : ℕ) (P out : List ℕ) → None (writeFileChecks d P out) → length (fileOf d P) < 2 ^ 56
+unfolding writeFileChecks
+file-small d P out h =
+    let k = not-carried d P out .if-not (h .0) in
+    let n = length P / 256 in
+    omega (arith, k .0, k .1, length-file d n P (omega (arith, k .0)))
+
 -- with one check more
 first-one : (P : List ℕ) (b : Bool) (n i : ℕ) → i < 2 ^ 56 → Small (firstChecks page256 P ++ (refuse b n i ∷ []))
 first-one P b n i h = first-small P (refuse b n i ∷ []) (h, tt)
@@ -87,7 +99,7 @@ second-one : (P : List ℕ) (b : Bool) (n i : ℕ) → i < 2 ^ 56 → Small (sec
 second-one P b n i h = second-small P (refuse b n i ∷ []) (h, tt)
 
 pub page-answers-faithful : PageAnswersFaithful
-unfolding writeFirstChecks firstChecks readFirstChecks rewriteChecks secondChecks readSecondChecks
+unfolding writeFirstChecks firstChecks readFirstChecks rewriteChecks secondChecks readSecondChecks writeFileChecks
 page-answers-faithful = record {
   write-first = λ P D. taken-apart (writeFirstChecks page256 P D) 0 (omega arith, (omega arith, (omega arith, tt))) (λ n. omega arith);
   read-first = λ P out. taken-apart (readFirstChecks page256 P out) 0 (first-one P (ltb (length out) 176) 3 0 (omega arith)) (λ n. omega arith);
@@ -98,4 +110,5 @@ page-answers-faithful = record {
   read-second = λ P out.
       taken-apart (readSecondChecks page256 P out) (byte1 P) (second-one P (ltb (length out) (byte1 P)) 3 0 (omega arith))
       (length-small P (refuse (ltb (length out) (byte1 P)) 3 0 ∷ []));
+  write-file = λ d P out. taken-apart (writeFileChecks d P out) _ (omega arith, (omega arith, tt)) (file-small d P out);
 }

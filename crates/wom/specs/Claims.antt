@@ -6,6 +6,7 @@ use Rattle.answer.specs.Layout.{Faithful}
 use Rattle.word.specs.Answer.{encodeAnswer, decodeAnswer, fillAnswer, capacityAnswer}
 use Rattle.page.specs.Answer.{writeFirstAnswer, readFirstAnswer, pageCapacityAnswer}
 use Rattle.second.specs.Answer.{rewriteAnswer, readSecondAnswer}
+use Rattle.transfer.specs.Answer.{writeFileAnswer}
 
 -- for every argument of each word operation
 pub record WordAnswersFaithful : Type 0 where
@@ -14,10 +15,11 @@ pub record WordAnswersFaithful : Type 0 where
   pub fill : (word : ℕ) → Faithful (fillAnswer word)
   pub capacity : (word : ℕ) → Faithful (capacityAnswer word)
 
--- and for every page, record and output
+-- and for every page, record and output; device number, pages' bytes and output
 pub record PageAnswersFaithful : Type 0 where
   pub write-first : (P D : List ℕ) → Faithful (writeFirstAnswer P D)
   pub read-first : (P out : List ℕ) → Faithful (readFirstAnswer P out)
   pub page-capacity : (P : List ℕ) → Faithful (pageCapacityAnswer P)
   pub rewrite : (P R : List ℕ) → Faithful (rewriteAnswer P R)
   pub read-second : (P out : List ℕ) → Faithful (readSecondAnswer P out)
+  pub write-file : (d : ℕ) (P out : List ℕ) → Faithful (writeFileAnswer d P out)

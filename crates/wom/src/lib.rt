@@ -6,6 +6,7 @@ use page::FirstRead;
 use page::FirstWritten;
 use second::Rewritten;
 use second::SecondRead;
+use transfer::FileWritten;
 use word::Decoded;
 use word::Encoded;
 use word::Filled;
@@ -17,6 +18,7 @@ ghost use Rattle.answer.specs.Layout.{packed};
 ghost use Rattle.word.specs.Answer.{encodeAnswer, decodeAnswer, fillAnswer, capacityAnswer, encodedCode, decodedCode, filledCode, measuredCode};
 ghost use Rattle.page.specs.Answer.{writeFirstAnswer, writeFirstLeaves, readFirstAnswer, readFirstLeaves, pageCapacityAnswer, firstWrittenCode, firstReadCode};
 ghost use Rattle.second.specs.Answer.{rewriteAnswer, rewriteLeaves, readSecondAnswer, readSecondLeaves, rewrittenCode, secondReadCode};
+ghost use Rattle.transfer.specs.Answer.{writeFileAnswer, writeFileLeaves, fileWrittenCode};
 ghost use Rattle.page.specs.Answer as pages;
 
 const PAGE_LENGTH: u64 = 1 << 56;
@@ -43,6 +45,8 @@ const HIGH_BIT: u64 = 10 << 56;
 const NEIGHBOURS: u64 = 11 << 56;
 
 const SUM_TOO_LARGE: u64 = 12 << 56;
+
+const PAGES_LENGTH: u64 = 13 << 56;
 
 fn pack_encoded(e: Encoded) -> u64
     ensures { λ r. ⌜ r ≡ packed (encodedCode e) ⌝ }
@@ -230,4 +234,23 @@ pub extern "C" fn wom_read_second(page: &[u8], out: &mut [u8]) -> u64
     ensures bytes { λ _. ⌜ now (out .exit) ≡ readSecondLeaves (now (page .entry)) (now (out .entry)) ⌝ }
 {
     pack_second_read(second::read_second(page, out))
+}
+
+fn pack_file_written(f: FileWritten) -> u64
+    ensures { λ r. ⌜ r ≡ packed (fileWrittenCode f) ⌝ }
+{
+    match f {
+        FileWritten::Length(n) => n as u64,
+        FileWritten::PagesLength => PAGES_LENGTH,
+        FileWritten::OutputLength => OUTPUT_LENGTH,
+    }
+}
+
+// Write file: the number of bytes written, or 13 or 3.
+#[no_mangle]
+pub extern "C" fn wom_write_file(device: u32, pages: &[u8], out: &mut [u8]) -> u64
+    ensures answer { λ r. ⌜ r ≡ packed (writeFileAnswer device (now (pages .entry)) (now (out .entry))) ⌝ }
+    ensures bytes { λ _. ⌜ now (out .exit) ≡ writeFileLeaves device (now (pages .entry)) (now (out .entry)) ⌝ }
+{
+    pack_file_written(transfer::write_file(device, pages, out))
 }

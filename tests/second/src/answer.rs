@@ -21,6 +21,7 @@ impl Refusal {
     pub const HIGH_BIT: Refusal = Refusal::plain(10);
     pub const NEIGHBOURS: Refusal = Refusal::plain(11);
     pub const SUM: Refusal = Refusal::plain(12);
+    pub const PAGES_LENGTH: Refusal = Refusal::plain(13);
 
     const fn plain(number: u8) -> Refusal {
         Refusal { number, index: 0 }

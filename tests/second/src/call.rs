@@ -1,7 +1,7 @@
 //! A call of one entry: what goes in, and its performance by this implementation.
 
 use crate::answer::Answer;
-use crate::{page, word};
+use crate::{file, page, word};
 
 /// The entries, in the order of their numbers.
 #[derive(Clone, Copy, Debug, PartialEq, Eq)]
@@ -15,10 +15,11 @@ pub enum Entry {
     PageCapacity,
     Rewrite,
     ReadSecond,
+    WriteFile,
 }
 
 impl Entry {
-    pub const ALL: [Entry; 9] = [
+    pub const ALL: [Entry; 10] = [
         Entry::EncodeWord,
         Entry::DecodeWord,
         Entry::FillWord,
@@ -28,13 +29,14 @@ impl Entry {
         Entry::PageCapacity,
         Entry::Rewrite,
         Entry::ReadSecond,
+        Entry::WriteFile,
     ];
     /// The entries that take a word and may refuse it.
     pub const OF_WORDS: [Entry; 3] = [Entry::DecodeWord, Entry::FillWord, Entry::WordCapacity];
-    /// The entries that take a page.
+    /// The entries that take one page.
     pub const OF_PAGES: [Entry; 5] =
         [Entry::WriteFirst, Entry::ReadFirst, Entry::PageCapacity, Entry::Rewrite, Entry::ReadSecond];
-    /// The entries that take data, an output or a record beside the page.
+    /// The entries that take data, an output or a record beside one page.
     pub const WITH_OTHER: [Entry; 4] = [Entry::WriteFirst, Entry::ReadFirst, Entry::Rewrite, Entry::ReadSecond];
     /// The entries that take a first-round page.
     pub const OF_FIRST_PAGES: [Entry; 3] = [Entry::ReadFirst, Entry::PageCapacity, Entry::Rewrite];
@@ -54,6 +56,16 @@ impl Entry {
             Entry::PageCapacity => "page capacity",
             Entry::Rewrite => "rewrite",
             Entry::ReadSecond => "read second",
+            Entry::WriteFile => "write file",
+        }
+    }
+
+    /// What its first buffer holds.
+    pub fn page_name(self) -> &'static str {
+        if self == Entry::WriteFile {
+            "pages"
+        } else {
+            "page"
         }
     }
 
@@ -67,6 +79,7 @@ impl Entry {
             Entry::PageCapacity => &[1, 5, 6, 7],
             Entry::Rewrite => &[1, 5, 6, 7, 8],
             Entry::ReadSecond => &[1, 5, 6, 7, 9, 3],
+            Entry::WriteFile => &[13, 3],
         }
     }
 
@@ -74,8 +87,12 @@ impl Entry {
         Entry::OF_PAGES.contains(&self)
     }
 
+    pub fn takes_buffers(self) -> bool {
+        self.takes_page() || self == Entry::WriteFile
+    }
+
     pub fn takes_other(self) -> bool {
-        Entry::WITH_OTHER.contains(&self)
+        Entry::WITH_OTHER.contains(&self) || self == Entry::WriteFile
     }
 
     pub fn writes_page(self) -> bool {
@@ -83,15 +100,17 @@ impl Entry {
     }
 
     pub fn writes_output(self) -> bool {
-        matches!(self, Entry::ReadFirst | Entry::ReadSecond)
+        matches!(self, Entry::ReadFirst | Entry::ReadSecond | Entry::WriteFile)
     }
 }
 
-/// One call. A word entry has an argument and empty buffers; a page entry has the argument 0.
+/// One call. A word entry has an argument and empty buffers; a page entry has the argument 0; write file has the device
+/// number as its argument.
 #[derive(Clone, Debug)]
 pub struct Call {
     pub entry: Entry,
     pub argument: u64,
+    /// The page, or the pages.
     pub page: Vec<u8>,
     /// The data, the output or the record.
     pub other: Vec<u8>,
@@ -108,6 +127,10 @@ impl Call {
         Call { entry, argument: 0, page, other }
     }
 
+    pub fn of_file(device: u32, pages: Vec<u8>, output: Vec<u8>) -> Call {
+        Call { entry: Entry::WriteFile, argument: u64::from(device), page: pages, other: output }
+    }
+
     /// Performs the call; the buffers are then as they are after it.
     pub fn perform(&mut self) -> Answer {
         match self.entry {
@@ -120,6 +143,7 @@ impl Call {
             Entry::PageCapacity => page::page_capacity(&self.page),
             Entry::Rewrite => page::rewrite(&mut self.page, &self.other),
             Entry::ReadSecond => page::read_second(&self.page, &mut self.other),
+            Entry::WriteFile => file::write_file(self.argument as u32, &self.page, &mut self.other),
         }
     }
 

@@ -111,9 +111,10 @@ impl Case {
 impl fmt::Display for Case {
     fn fmt(&self, out: &mut fmt::Formatter) -> fmt::Result {
         write!(out, "seed {}, {} case {}, {} (", self.seed, self.part.name(), self.number, self.entry.name())?;
-        if self.entry.takes_page() {
-            let Case { page_length, other_length, place, .. } = self;
-            write!(out, "page of {page_length} bytes, other buffer of {other_length} bytes, {})", place.name())
+        if self.entry.takes_buffers() {
+            let Case { page_length, other_length, .. } = self;
+            let (page, place) = (self.entry.page_name(), self.place.name());
+            write!(out, "{page} of {page_length} bytes, other buffer of {other_length} bytes, {place})")
         } else {
             write!(out, "argument {:#x})", self.argument)
         }

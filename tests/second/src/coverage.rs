@@ -9,21 +9,26 @@ use crate::page::WORDS;
 /// The capacities that refusal 8 must have named: the least and the most of a page.
 const ENDS: [u64; 2] = [660, 1_012];
 
-/// For each entry and each number, 0 for acceptance: how often it was answered.
-type Numbers = [[u64; 13]; 9];
+const ENTRIES: usize = Entry::ALL.len();
+
+/// The numbers of an answer: 0 for acceptance, and 13 refusals.
+const NUMBERS: usize = 14;
+
+/// For each entry and each number: how often it was answered.
+type Numbers = [[u64; NUMBERS]; ENTRIES];
 
 pub struct Coverage {
     /// For each place of the buffers.
     places: [Numbers; 6],
     /// For each entry and each word: how often 7 named it.
-    words: [[u64; WORDS]; 9],
+    words: [[u64; WORDS]; ENTRIES],
     /// For each of `ENDS`: how often 8 named it.
     ends: [u64; 2],
 }
 
 impl Coverage {
     pub fn new() -> Coverage {
-        Coverage { places: [[[0; 13]; 9]; 6], words: [[0; WORDS]; 9], ends: [0; 2] }
+        Coverage { places: [[[0; NUMBERS]; ENTRIES]; 6], words: [[0; WORDS]; ENTRIES], ends: [0; 2] }
     }
 
     /// Counts a call, made with its buffers in this place.
@@ -56,7 +61,8 @@ impl Coverage {
     pub fn wanted(&self) -> Vec<(String, u64)> {
         let ends = (0..2).map(|end| (format!("rewrite 8 with {}", ENDS[end]), self.ends[end]));
         let answers = Entry::ALL.into_iter().flat_map(|entry| self.wanted_of(entry));
-        let places = Entry::OF_PAGES.into_iter().flat_map(|entry| self.wanted_places(entry));
+        let buffers = Entry::ALL.into_iter().filter(|entry| entry.takes_buffers());
+        let places = buffers.flat_map(|entry| self.wanted_places(entry));
         answers.chain(places).chain(ends).collect()
     }
 
@@ -132,12 +138,14 @@ impl Default for Coverage {
     }
 }
 
-/// The numbers that a far length of the entry's page, and of its other buffer, must have led to; 0 for acceptance.
+/// The numbers that a far length of the entry's page or pages, and of its other buffer, must have led to; 0 for
+/// acceptance.
 fn far_numbers(entry: Entry) -> &'static [u8] {
     match entry {
         Entry::WriteFirst => &[1, 2],
         Entry::ReadFirst | Entry::ReadSecond => &[1, 0],
         Entry::Rewrite => &[1, 8],
+        Entry::WriteFile => &[13, 0],
         _ => &[1],
     }
 }
@@ -152,11 +160,11 @@ mod tests {
         coverage.wanted().into_iter().filter(|(_, met)| *met == 0).count()
     }
 
-    /// Each page entry twice accepted and twice by each refusal beside untouchable memory, and the far ones.
+    /// Each entry with buffers twice accepted and twice by each refusal beside untouchable memory, and the far ones.
     #[test]
     fn every_place_is_wanted() {
         let places = |entry: Entry| 2 * (1 + entry.refusals().len()) + far_numbers(entry).len();
-        let wanted: usize = Entry::OF_PAGES.into_iter().map(places).sum();
+        let wanted: usize = Entry::ALL.into_iter().filter(|entry| entry.takes_buffers()).map(places).sum();
         let names =
             Coverage::new().wanted().into_iter().filter(|(name, _)| name.contains("memory") || name.contains("far"));
         assert_eq!(names.count(), wanted);

@@ -77,6 +77,7 @@ impl Mark {
     fn report(&self, signal: c_int) -> Text {
         let name = |names: Option<&'static str>| names.unwrap_or("unknown");
         let seed = self.seed.load(Ordering::SeqCst);
+        let entry = Entry::ALL.get(self.entry.load(Ordering::SeqCst));
         Text::new()
             .with("wrong: seed ")
             .with_number(seed)
@@ -85,8 +86,10 @@ impl Mark {
             .with(" case ")
             .with_number(self.number.load(Ordering::SeqCst))
             .with(", ")
-            .with(name(Entry::ALL.get(self.entry.load(Ordering::SeqCst)).map(|entry| entry.name())))
-            .with(" (page of ")
+            .with(name(entry.map(|entry| entry.name())))
+            .with(" (")
+            .with(name(entry.map(|entry| entry.page_name())))
+            .with(" of ")
             .with_number(self.page_length.load(Ordering::SeqCst) as u64)
             .with(" bytes, other buffer of ")
             .with_number(self.other_length.load(Ordering::SeqCst) as u64)
@@ -202,6 +205,17 @@ mod tests {
              read-only right after untouchable memory): forbidden memory was touched, signal 11\n\
              differential: seed 7, ended by a signal, 1234 checks, 3 wrong\n"
         );
+    }
+
+    #[test]
+    fn the_report_names_the_case_of_a_file() {
+        let mark = Mark::new();
+        let case = Case::new(7, Part::Far, 31, &Call::of_file(1, vec![1; 512], Vec::new())).at(Place::Far);
+        mark.set(&case, 0, 0);
+        assert!(case
+            .to_string()
+            .ends_with("write file (pages of 512 bytes, other buffer of 0 bytes, with a far length)"));
+        assert!(text_of(&mark.report(SIGSEGV)).contains(&case.to_string()));
     }
 
     /// Each name at its longest.

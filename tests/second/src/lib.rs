@@ -1,8 +1,9 @@
 //! A second implementation of the page code, for tests only.
 //!
-//! It was written from document 01 (the exact rules) and the layout of `wom.h` alone, without sight of the first
-//! implementation. Cells are kept one by one in plain arrays: clarity counts here, not speed. On it rest the vectors
-//! and pages of `generate`, and the comparison of `differential` with the archive `libwom.a`.
+//! It was written from document 01 (the exact rules), Change 1 of document 02 (the transfer file) and `wom.h` alone,
+//! without sight of the first implementation. Cells are kept one by one in plain arrays: clarity counts here, not
+//! speed. On it rest the vectors, pages and files of `generate`, and the comparison of `differential` with the archive
+//! `libwom.a`.
 
 pub mod answer;
 pub mod call;
@@ -12,6 +13,7 @@ pub mod command;
 pub mod coverage;
 pub mod fault;
 pub mod fenced;
+pub mod file;
 pub mod listing;
 pub mod memory;
 pub mod page;

@@ -16,7 +16,7 @@ pub const FAR_BYTES: usize = 1 << 46;
 /// The untouchable bytes on each side of an arena.
 const GUARD_BYTES: usize = 1 << 20;
 /// The bytes of a far buffer that can be touched, at most.
-const NEAR_BYTES: usize = 1 << 12;
+const NEAR_BYTES: usize = 1 << 15;
 
 const PROT_NONE: c_int = 0;
 const PROT_READ: c_int = 1;

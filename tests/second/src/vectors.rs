@@ -3,9 +3,11 @@
 use crate::answer::{number, value};
 use crate::call::{Call, Entry};
 use crate::cases::damage::{any_word_call, choices, combined};
+use crate::cases::files::CONTENTS;
 use crate::cases::lengths::{resized, FAR_RECORD_LENGTHS, WRONG_PAGE_LENGTHS};
 use crate::cases::pages::*;
 use crate::cases::words::{any_value, sum_too_large, with_hole, with_neighbours, Hole, LISTED_VALUES, SPARSE_VALUE};
+use crate::file::file_bytes;
 use crate::page::{data_cells_of, words_of, FIRST_BYTES, PAGE_BYTES, WORDS};
 use crate::random::Random;
 use crate::word::{cells_with_sum, legal_word, number_of, CELLS, LARGEST_SUM, LARGEST_VALUE};
@@ -53,6 +55,8 @@ pub fn calls() -> Vec<Call> {
     script.orders();
     script.words();
     script.cell_0_values();
+    script.files();
+    script.pages_lengths();
     script.calls
 }
 
@@ -279,9 +283,9 @@ impl Script {
         }
     }
 
-    /// Every choice of conditions at once, so that the order of refusals shows.
+    /// Every choice of conditions at once, so that the order of refusals shows. The calls of write file come last.
     fn orders(&mut self) {
-        for entry in Entry::ALL {
+        for entry in Entry::ALL.into_iter().filter(|&entry| entry != Entry::WriteFile) {
             for chosen in 0..choices(entry) {
                 let call = combined(&mut self.random, entry, chosen);
                 self.add(call);
@@ -309,9 +313,39 @@ impl Script {
         let most = most_bytes(&first);
         self.second_round(&first, most, most);
     }
+
+    /// A call of write file with an output of this length, which holds any bytes; the contents go by turns.
+    fn file(&mut self, device: u32, pages_length: usize, length: usize) {
+        let contents = CONTENTS[self.calls.len() % CONTENTS.len()];
+        let pages = contents(&mut self.random, pages_length);
+        let output = self.random.bytes(length);
+        self.add(Call::of_file(device, pages, output));
+    }
+
+    /// Files of 0 to 3 pages with outputs exact, longer, one short and empty, and 4 pages with the longest output of a
+    /// vector, which is too short.
+    fn files(&mut self) {
+        for count in 0..4 {
+            let devices = [0, 0x0102_0304, u32::MAX, self.random.draw() as u32];
+            let exact = file_bytes(count);
+            for (turn, length) in [exact, exact + 1 + 60 * count, exact - 1, 0].into_iter().enumerate() {
+                self.file(devices[(turn + count) % 4], PAGE_BYTES * count, length);
+            }
+        }
+        self.file(1, 4 * PAGE_BYTES, LENGTH_MOST);
+    }
+
+    /// Pages of a length that is no multiple of 256, with outputs long enough for the whole pages, and too short.
+    fn pages_lengths(&mut self) {
+        let enough = [1, 255, 257, 513, 1_023].map(|length| (length, LENGTH_MOST));
+        for (length, output) in enough.into_iter().chain([(1, 0), (257, 11), (513, 270), (1_023, 788)]) {
+            let device = self.random.draw() as u32;
+            self.file(device, length, output);
+        }
+    }
 }
 
-/// The binary file: for each call a header of 13 bytes, the page, and the other buffer.
+/// The binary file: for each call a header of 13 bytes, the page or pages, and the other buffer.
 pub fn input_of(calls: &[Call]) -> Vec<u8> {
     let mut bytes = Vec::new();
     for call in calls {
@@ -349,16 +383,39 @@ pub fn text_of(calls: &[Call]) -> String {
 #[cfg(test)]
 mod tests {
     use super::*;
+    use crate::answer::Refusal;
     use std::collections::HashSet;
 
     #[test]
     fn size_and_variety() {
         let calls = calls();
-        assert_eq!(calls.len(), 663);
+        assert_eq!(calls.len(), 689);
         assert!(text_of(&calls).len() < 250_000);
         assert!(calls.iter().all(|call| call.page.len().max(call.other.len()) <= LENGTH_MOST));
         let pages: HashSet<_> = calls.iter().map(|call| &call.page).filter(|page| page.len() == PAGE_BYTES).collect();
-        assert_eq!(pages.len(), 299);
+        assert_eq!(pages.len(), 303);
+    }
+
+    /// The calls before them stay as they were.
+    #[test]
+    fn the_calls_of_write_file_come_last() {
+        assert!((0..).zip(calls()).all(|(index, call)| (call.entry == Entry::WriteFile) == (index >= 663)));
+    }
+
+    /// The pages' length, the output's, and the answer.
+    #[test]
+    fn files_of_every_length_class() {
+        let files = calls().into_iter().filter(|call| call.entry == Entry::WriteFile);
+        let met: Vec<_> = files.map(|mut call| (call.page.len(), call.other.len(), call.perform())).collect();
+        let accepted = [(0, 12, 12), (0, 13, 12), (256, 271, 271), (512, 530, 530), (768, 789, 789), (768, 970, 789)];
+        let too_short = [(0, 0), (0, 11), (256, 270), (512, 529), (768, 788), (1_024, 1_024)];
+        let wrong_pages = [(1, 0), (1, 1_024), (255, 1_024), (257, 11), (513, 270), (1_023, 788), (1_023, 1_024)];
+        let accepted = accepted.map(|(pages, output, length)| (pages, output, Ok(length)));
+        let too_short = too_short.map(|(pages, output)| (pages, output, Err(Refusal::OUTPUT_LENGTH)));
+        let wrong_pages = wrong_pages.map(|(pages, output)| (pages, output, Err(Refusal::PAGES_LENGTH)));
+        for one in accepted.into_iter().chain(too_short).chain(wrong_pages) {
+            assert!(met.contains(&one), "never {one:?}");
+        }
     }
 
     /// "cell 0 is worth 2971215073": that value and its neighbours, each with its word, its filled word and its capacity.

@@ -1,7 +1,7 @@
 //! Performs calls by this implementation and by the archive `libwom.a`, and compares answers and buffers.
 //!
-//! The archive performs each page call three times: with its buffers between canary bytes, right before memory that
-//! cannot be touched, and right after such memory. Beside that memory, a buffer that the call must not write is
+//! The archive performs each call that has buffers three times: with these between canary bytes, right before memory
+//! that cannot be touched, and right after such memory. Beside that memory, a buffer that the call must not write is
 //! read-only: what the entry only reads, and every buffer of a call that is refused. Then there are calls with far
 //! lengths, of whose buffers only those bytes can be touched that the rules let the call look at. A touch of what
 //! cannot be touched, and a write to what is read-only, end the run at once and are wrong.
@@ -37,6 +37,7 @@ extern "C" {
     fn wom_page_capacity(page: *const u8, page_length: usize) -> u64;
     fn wom_rewrite(page: *mut u8, page_length: usize, record: *const u8, record_length: usize) -> u64;
     fn wom_read_second(page: *const u8, page_length: usize, out: *mut u8, out_length: usize) -> u64;
+    fn wom_write_file(device: u32, pages: *const u8, pages_length: usize, out: *mut u8, out_length: usize) -> u64;
 }
 
 /// Performs the call by the archive, with these buffers in place of its own.
@@ -54,6 +55,9 @@ fn perform(call: &Call, page: Span, other: Span) -> u64 {
             Entry::PageCapacity => wom_page_capacity(page.start, page.length),
             Entry::Rewrite => wom_rewrite(page.start, page.length, other.start, other.length),
             Entry::ReadSecond => wom_read_second(page.start, page.length, other.start, other.length),
+            Entry::WriteFile => {
+                wom_write_file(call.argument as u32, page.start, page.length, other.start, other.length)
+            }
         }
     }
 }
@@ -158,7 +162,7 @@ impl Kind {
             }
             Kind::Bytes => written.spoil_buffer(),
             Kind::Kept => kept.spoil_buffer(),
-            Kind::Canary => entry.takes_page() && kept.spoil_canary(),
+            Kind::Canary => entry.takes_buffers() && kept.spoil_canary(),
             _ => false,
         }
     }
@@ -242,7 +246,7 @@ impl Run {
         let expected = Expected::of(call);
         let case = Case::new(self.seed, part, number, call);
         self.fenced(&case, call, &expected);
-        if call.entry.takes_page() {
+        if call.entry.takes_buffers() {
             Side::BOTH.into_iter().for_each(|side| self.guarded(&case, call, &expected, side));
         }
     }
@@ -259,8 +263,8 @@ impl Run {
         let given = Outcome::given(call, case.number);
         self.coverage.count(entry, case.place, answer);
         self.tally.compare_answers(case, expected.answer, given.answer);
-        if entry.takes_page() {
-            self.tally.compare_fenced(case, "page", &expected.page, &given.page);
+        if entry.takes_buffers() {
+            self.tally.compare_fenced(case, entry.page_name(), &expected.page, &given.page);
         }
         if entry.takes_other() {
             self.tally.compare_fenced(case, "other buffer", &expected.other, &given.other);
@@ -306,7 +310,7 @@ impl Run {
     fn compare_guarded(&mut self, case: &Case, expected: &Expected, answer: u64, side: Side) {
         let Expected { answer: expected, page, other } = expected;
         self.tally.compare_answers(case, packed(*expected), answer);
-        self.tally.compare_bytes(case, "page", page, self.page.bytes(page.len(), side));
+        self.tally.compare_bytes(case, case.entry.page_name(), page, self.page.bytes(page.len(), side));
         if case.entry.takes_other() {
             self.tally.compare_bytes(case, "other buffer", other, self.other.bytes(other.len(), side));
         }
@@ -350,7 +354,8 @@ impl Run {
     fn compare_far(&mut self, case: &Case, far: &FarCall, expected: &Expected, touched: usize) {
         let Expected { page, other, .. } = expected;
         if far.page.is_none() {
-            self.tally.compare_bytes(case, "page", page, self.page.bytes(page.len(), Side::Before));
+            let name = case.entry.page_name();
+            self.tally.compare_bytes(case, name, page, self.page.bytes(page.len(), Side::Before));
         }
         if far.other.is_none() && case.entry.takes_other() {
             self.tally.compare_bytes(case, "other buffer", other, self.other.bytes(other.len(), Side::Before));

@@ -1,7 +1,9 @@
-//! Makes the tests' files: the vectors, the listing's pages, and pages at random; and lists pages by this implementation.
+//! Makes the tests' files: the vectors, the listing's pages, and pages at random; and lists pages, and writes the
+//! transfer file of pages, by this implementation.
 
 use second::cases::pages::any_page;
 use second::command::command;
+use second::file::{file_bytes, write_file, FILE_PAGES_MOST};
 use second::listing::{listing, PAGES_MOST};
 use second::page::PAGE_BYTES;
 use second::random::Random;
@@ -11,7 +13,7 @@ use std::io::{self, Read, Write};
 use std::path::Path;
 use std::process::ExitCode;
 
-const USAGE: &str = "usage: generate vectors DIR | listing DIR | pages SEED COUNT EXTRA | list";
+const USAGE: &str = "usage: generate vectors DIR | listing DIR | pages SEED COUNT EXTRA | list | file DEVICE";
 
 /// Writes the two files of a test.
 fn write_test(folder: &str, input: &[u8], text: &str) -> io::Result<()> {
@@ -41,11 +43,26 @@ fn write_pages(seed: u64, count: usize, extra: u8) -> io::Result<()> {
     output.flush()
 }
 
+/// Standard input, up to this many bytes.
+fn input(most: usize) -> io::Result<Vec<u8>> {
+    let mut input = Vec::new();
+    io::stdin().lock().take(most as u64).read_to_end(&mut input)?;
+    Ok(input)
+}
+
 /// Lists standard input.
 fn list() -> io::Result<()> {
-    let mut input = Vec::new();
-    io::stdin().lock().take((PAGES_MOST * PAGE_BYTES) as u64).read_to_end(&mut input)?;
-    io::stdout().write_all(listing(&input).as_bytes())
+    io::stdout().write_all(listing(&input(PAGES_MOST * PAGE_BYTES)?).as_bytes())
+}
+
+/// Writes the transfer file of standard input to standard output; one byte too many is enough to refuse the pages.
+fn file(device: u32) -> io::Result<()> {
+    let pages = input(FILE_PAGES_MOST * PAGE_BYTES + 1)?;
+    let mut output = vec![0; file_bytes(FILE_PAGES_MOST)];
+    let length = write_file(device, &pages, &mut output)
+        .map_err(|refusal| io::Error::other(format!("write file refuses {}", refusal.number)))?;
+    io::stdout().write_all(&output[..length as usize])?;
+    io::stdout().flush()
 }
 
 /// What the arguments ask for, or nothing when they are not as the usage says.
@@ -55,6 +72,7 @@ fn asked(arguments: &[&str]) -> Option<ExitCode> {
         ["listing", folder] => write_listing(folder),
         ["pages", seed, count, extra] => write_pages(seed.parse().ok()?, count.parse().ok()?, extra.parse().ok()?),
         ["list"] => list(),
+        ["file", device] => file(device.parse().ok()?),
         _ => return None,
     };
     match done {

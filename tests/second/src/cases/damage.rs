@@ -1,9 +1,11 @@
 //! Sound calls, and calls damaged in the direction of chosen refusals, so that the order of refusals shows.
 
-use super::lengths::{resized, wrong_data_length, wrong_page_length};
+use super::files::{any_device, any_pages};
+use super::lengths::{resized, wrong_data_length, wrong_page_length, wrong_pages_length};
 use super::pages::{any_first, any_record, blank, most_bytes, second_from, with_data_cell, with_word};
 use super::words::{any_argument, any_value, illegal, sum_too_large, with_hole, with_neighbours, Hole};
 use crate::call::{Call, Entry};
+use crate::file::file_bytes;
 use crate::page::{data_cells_of, words_of, FIRST_BYTES, FIRST_ROUND, PAGE_BYTES, SECOND_ROUND, WORDS};
 use crate::random::Random;
 use crate::word::{cells_of, legal_word, number_of, CELLS};
@@ -30,7 +32,28 @@ pub fn sound(random: &mut Random, entry: Entry) -> Call {
             let length = usize::from(page[1]) + random.below(3);
             Call::of_page(entry, page, random.bytes(length))
         }
+        Entry::WriteFile => {
+            let pages = any_pages(random);
+            let length = file_bytes(pages.len() / PAGE_BYTES) + random.below(3);
+            Call::of_file(any_device(random), pages, random.bytes(length))
+        }
     }
+}
+
+/// The least length of the output of a sound call.
+fn output_needed(call: &Call) -> usize {
+    match call.entry {
+        Entry::ReadFirst => FIRST_BYTES,
+        Entry::WriteFile => file_bytes(call.page.len() / PAGE_BYTES),
+        _ => usize::from(call.page[1]),
+    }
+}
+
+/// A wrong length of the page, or of the pages.
+fn resize_page(random: &mut Random, call: &mut Call, wrong: fn(&mut Random) -> usize) {
+    let length = wrong(random);
+    let page = std::mem::take(&mut call.page);
+    call.page = resized(random, page, length);
 }
 
 /// Any state but the one that the entry asks for.
@@ -82,13 +105,13 @@ fn spoil_data_cells(random: &mut Random, call: &mut Call) {
 /// Damages a sound call so that it meets the condition of the refusal with this number.
 fn damage(random: &mut Random, call: &mut Call, number: u8) {
     match number {
-        1 => call.page = wrong_page(random, &call.page),
+        1 => resize_page(random, call, wrong_page_length),
         2 => {
             let length = wrong_data_length(random);
             call.other = random.bytes(length);
         }
         3 => {
-            let needed = if call.entry == Entry::ReadFirst { FIRST_BYTES } else { usize::from(call.page[1]) };
+            let needed = output_needed(call);
             let any = random.below(needed);
             call.other.truncate(random.pick(&[0, needed - 1, any]));
         }
@@ -103,13 +126,9 @@ fn damage(random: &mut Random, call: &mut Call, number: u8) {
             let cells = with_neighbours(cells_of(call.argument), random.below(CELLS - 1));
             call.argument = number_of(&cells);
         }
-        _ => call.argument = number_of(&sum_too_large(random)),
+        12 => call.argument = number_of(&sum_too_large(random)),
+        _ => resize_page(random, call, wrong_pages_length),
     }
-}
-
-fn wrong_page(random: &mut Random, page: &[u8]) -> Vec<u8> {
-    let length = wrong_page_length(random);
-    resized(random, page.to_vec(), length)
 }
 
 /// A call that meets the conditions of the chosen refusals of its entry: bit k of `chosen` stands for the k-th in the

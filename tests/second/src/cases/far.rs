@@ -1,11 +1,13 @@
-//! The calls of the differential run with lengths far beyond any page, record or output.
+//! The calls of the differential run with lengths far beyond any page, record, output or file.
 
 use super::damage::{combined, sound};
+use super::files::{any_device, any_pages};
 use super::lengths::resized;
 use super::pages::{any_first, first_page, second_page};
 use super::words::SPARSE_VALUE;
 use crate::answer::Answer;
 use crate::call::{Call, Entry};
+use crate::file::{file_bytes, FILE_PAGES_MOST};
 use crate::memory::FAR_BYTES;
 use crate::page::{FIRST_BYTES, PAGE_BYTES, SECOND_BYTES_MOST, WORDS};
 use crate::random::Random;
@@ -31,8 +33,18 @@ const WRAPPED_LENGTHS: [usize; 9] = [
     isize::MAX as usize,
 ];
 
+/// Lengths of pages are one of these and a low part; cut to fewer bits, in bytes or counted in pages, the low part is
+/// what is left of them.
+const PAGES_HIGH_PARTS: [usize; 8] = [1 << 16, 1 << 24, 1 << 31, 1 << 32, 1 << 40, 1 << 45, 1 << 56, 1 << 62];
+
+/// The low parts of lengths of pages: none, a part of a page, one page, and the most.
+const PAGES_LOW_PARTS: [usize; 4] = [0, 1, PAGE_BYTES, FILE_PAGES_MOST * PAGE_BYTES];
+
+/// The longest that memory can be, and the longest of whole pages.
+const LONGEST: [usize; 2] = [isize::MAX as usize, isize::MAX as usize - 255];
+
 /// A call with a far length. The rules treat all lengths alike that are too long, or long enough: the answer is that of
-/// the near call, whose page, data or record is a little too long, or whose output is long enough.
+/// the near call, whose page, pages, data or record is a little too long, or whose output is long enough.
 pub struct FarCall {
     pub near: Call,
     /// The lengths that are told in place of the near ones.
@@ -49,12 +61,12 @@ impl FarCall {
         self.other.unwrap_or(self.near.other.len())
     }
 
-    /// The number of bytes of the far output that are looked at: those of the record. The rules refuse a page, data and
-    /// a record of a far length by the length alone.
+    /// The number of bytes of the far output that are looked at: those of the record or the file. The rules refuse a
+    /// page, pages, data and a record of a far length by the length alone.
     pub fn touched(&self, answer: Answer) -> usize {
         match (self.near.entry, answer) {
             (Entry::ReadFirst, Ok(_)) => FIRST_BYTES,
-            (Entry::ReadSecond, Ok(length)) => length as usize,
+            (Entry::ReadSecond | Entry::WriteFile, Ok(length)) => length as usize,
             _ => 0,
         }
     }
@@ -63,6 +75,12 @@ impl FarCall {
 /// The far lengths with this low part, and others.
 fn far_lengths(low: usize) -> Vec<usize> {
     HIGH_PARTS.into_iter().map(|high| high + low).chain(OTHER_LENGTHS).collect()
+}
+
+/// The far lengths of pages.
+fn far_pages_lengths() -> Vec<usize> {
+    let parts = PAGES_HIGH_PARTS.into_iter().flat_map(|high| PAGES_LOW_PARTS.map(|low| high + low));
+    parts.chain(OTHER_LENGTHS).chain(LONGEST).collect()
 }
 
 /// The low part that would change the answer for the entry's other buffer.
@@ -103,6 +121,10 @@ pub fn calls() -> Vec<FarCall> {
     Entry::WITH_OTHER.into_iter().for_each(|entry| walk.both(entry));
     [0, 1, 82, 126].into_iter().for_each(|record| walk.outputs(record));
     walk.records();
+    walk.file_pages();
+    [0, 1, FILE_PAGES_MOST].into_iter().for_each(|count| walk.file_outputs(count));
+    walk.refused_file_outputs();
+    walk.file_pages_and_outputs();
     walk.calls
 }
 
@@ -169,6 +191,53 @@ impl Walk {
         let firsts = [first_page(&[SPARSE_VALUE; WORDS]), first_page(&[0; WORDS]), any];
         firsts.iter().for_each(|first| self.records_over(first));
     }
+
+    /// A call of write file with any pages of this length, and an output of the other.
+    fn file(&mut self, pages_length: usize, length: usize) -> Call {
+        let pages = any_pages(&mut self.random);
+        let pages = resized(&mut self.random, pages, pages_length);
+        let device = any_device(&mut self.random);
+        Call::of_file(device, pages, self.random.bytes(length))
+    }
+
+    /// Pages of every far length, with an output that is too short and one that takes the most pages.
+    fn file_pages(&mut self) {
+        for length in far_pages_lengths() {
+            for output in [0, file_bytes(FILE_PAGES_MOST)] {
+                let near = self.file(FILE_PAGES_MOST * PAGE_BYTES + 1, output);
+                self.calls.push(FarCall { near, page: Some(length), other: None });
+            }
+        }
+    }
+
+    /// Outputs of every far length for a file of this many pages; cut, they are empty or one short.
+    fn file_outputs(&mut self, count: usize) {
+        let exact = file_bytes(count);
+        let lengths = [0, exact - 1].into_iter().flat_map(far_lengths).filter(|&length| length >= exact);
+        for length in lengths {
+            let near = self.file(PAGE_BYTES * count, exact);
+            self.calls.push(FarCall { near, page: None, other: Some(length) });
+        }
+    }
+
+    /// Outputs of every far length for pages that are refused.
+    fn refused_file_outputs(&mut self) {
+        for pages_length in [PAGE_BYTES - 1, (FILE_PAGES_MOST + 1) * PAGE_BYTES] {
+            for length in far_lengths(0).into_iter().chain(LONGEST) {
+                let near = self.file(pages_length, 0);
+                self.calls.push(FarCall { near, page: None, other: Some(length) });
+            }
+        }
+    }
+
+    /// Pages and an output of far lengths.
+    fn file_pages_and_outputs(&mut self) {
+        for high in [1 << 16, 1 << 32, 1 << 40] {
+            let near = self.file(FILE_PAGES_MOST * PAGE_BYTES + 1, 0);
+            let (page, other) = (Some(high + PAGE_BYTES), Some(high + file_bytes(1)));
+            self.calls.push(FarCall { near, page, other });
+        }
+    }
 }
 
 #[cfg(test)]
@@ -187,7 +256,7 @@ mod tests {
 
     #[test]
     fn the_number_of_calls() {
-        assert_eq!(calls().len(), 319);
+        assert_eq!(calls().len(), 480);
     }
 
     #[test]
@@ -196,11 +265,14 @@ mod tests {
         assert!(calls().iter().all(|far| far.page_length().max(far.other_length()) >= 256));
     }
 
-    /// "1 if the page is not 256 bytes".
+    /// "1 if the page is not 256 bytes", and 13 when the pages' bytes "exceed 64 pages".
     #[test]
-    fn a_far_page_is_refused_1() {
-        let far_pages = answered().into_iter().filter(|(far, _)| far.page.is_some());
-        assert!(far_pages.into_iter().all(|(_, answer)| number(answer) == 1));
+    fn a_far_page_is_refused_1_and_far_pages_13() {
+        for (far, answer) in answered().into_iter().filter(|(far, _)| far.page.is_some()) {
+            let wanted = if far.near.entry == Entry::WriteFile { 13 } else { 1 };
+            assert_eq!(number(answer), wanted, "{}", far.near.entry.name());
+            assert!(far.page_length() > if wanted == 13 { 16_384 } else { 256 });
+        }
     }
 
     /// A far output is not refused 3; far data and records are refused, if not before, by 2 and by 8.
@@ -211,18 +283,19 @@ mod tests {
                 Entry::WriteFirst => &[1, 2],
                 Entry::ReadFirst => &[0, 1, 5, 6, 7],
                 Entry::Rewrite => &[1, 5, 6, 7, 8],
+                Entry::WriteFile => &[0, 13],
                 _ => &[0, 1, 5, 6, 7, 9],
             };
             assert!(wanted.contains(&number(answer)), "{} {answer:?}", far.near.entry.name());
         }
     }
 
-    /// What is not reserved is only for records that are refused 8, which are never looked at.
+    /// What is not reserved is only for buffers of calls that are refused 8 or 13, which are never looked at.
     #[test]
     fn lengths_that_are_not_reserved() {
         for (far, answer) in answered() {
             let lengths = far.page_length().max(far.other_length());
-            assert!(lengths <= FAR_BYTES || number(answer) == 8, "{} {answer:?}", far.near.entry.name());
+            assert!(lengths <= FAR_BYTES || matches!(number(answer), 8 | 13), "{} {answer:?}", far.near.entry.name());
         }
     }
 
@@ -246,6 +319,22 @@ mod tests {
         for entry in Entry::OF_PAGES {
             let met = |far: FarCall| far.near.entry == entry && far.page == Some((1 << 32) + PAGE_BYTES);
             assert!(calls().into_iter().any(met), "{}", entry.name());
+        }
+    }
+
+    /// Cut to 16 or 32 bits, or counted in pages and cut to 8, 16 or 32, far pages look sound, and a far output of an
+    /// accepted call looks too short.
+    #[test]
+    fn lengths_of_files_that_look_otherwise_in_fewer_bits() {
+        let calls: Vec<FarCall> = calls().into_iter().filter(|far| far.near.entry == Entry::WriteFile).collect();
+        for (high, low) in [16, 24, 32, 40].into_iter().flat_map(|bits| [0, 256, 16_384].map(|low| (1 << bits, low))) {
+            assert!(calls.iter().any(|far| far.page == Some(high + low)), "pages of {high} + {low}");
+        }
+        for (count, exact) in [(0, 12), (1, 271), (64, 16_588)] {
+            let of_count = |far: &&FarCall| far.near.page.len() == 256 * count;
+            for (high, low) in [16, 32].into_iter().flat_map(|bits| [(1 << bits, 0), (1 << bits, exact - 1)]) {
+                assert!(calls.iter().filter(of_count).any(|far| far.other == Some(high + low)), "{count} pages");
+            }
         }
     }
 

@@ -1,7 +1,8 @@
-//! The length classes of pages, data, records and outputs.
+//! The length classes of pages, data, records, outputs and the pages of a file.
 
 use crate::call::Entry;
-use crate::page::FIRST_BYTES;
+use crate::file::file_bytes;
+use crate::page::{FIRST_BYTES, PAGE_BYTES};
 use crate::random::Random;
 
 /// Lengths that are not a page's.
@@ -10,6 +11,10 @@ pub const WRONG_PAGE_LENGTHS: [usize; 7] = [0, 1, 2, 3, 255, 257, 512];
 pub const WRONG_DATA_LENGTHS: [usize; 4] = [0, 175, 177, 352];
 /// Lengths that fit no page; 8 times 8,192 is 65,536.
 pub const FAR_RECORD_LENGTHS: [usize; 9] = [200, 255, 256, 257, 1_000, 8_192, 8_200, 65_536, 65_700];
+/// Lengths that are no multiple of 256.
+const CUT_PAGES_LENGTHS: [usize; 7] = [1, 255, 257, 511, 513, 16_383, 16_385];
+/// Lengths of more than 64 pages, of which 65,536 and those after it are, cut to 16 bits, those of 0, 1 and 64 pages.
+pub const FAR_PAGES_LENGTHS: [usize; 8] = [16_639, 16_640, 16_641, 16_896, 32_768, 65_536, 65_792, 81_920];
 
 /// The bytes cut to the length, or followed by any bytes up to it.
 pub fn resized(random: &mut Random, mut bytes: Vec<u8>, length: usize) -> Vec<u8> {
@@ -37,6 +42,16 @@ pub fn wrong_data_length(random: &mut Random) -> usize {
     wrong_length(random, FIRST_BYTES, &WRONG_DATA_LENGTHS)
 }
 
+/// Any length that is refused 13, seldom a large one.
+pub fn wrong_pages_length(random: &mut Random) -> usize {
+    let cut = PAGE_BYTES * random.below(5) + random.between(1, PAGE_BYTES - 1);
+    match random.below(8) {
+        0 => random.pick(&FAR_PAGES_LENGTHS),
+        1 | 2 => random.pick(&CUT_PAGES_LENGTHS),
+        _ => cut,
+    }
+}
+
 fn data_length(random: &mut Random) -> usize {
     if random.one_in(4) {
         wrong_data_length(random)
@@ -61,13 +76,14 @@ fn output_length(random: &mut Random, needed: usize) -> usize {
     random.pick(&[needed.saturating_sub(1), needed, needed + 1, longer, 0, any])
 }
 
-/// A length for the other buffer of a page entry.
+/// A length for the other buffer of a page entry, or of write file.
 pub fn other_length(random: &mut Random, entry: Entry, page: &[u8]) -> usize {
     match entry {
         Entry::WriteFirst => data_length(random),
         Entry::ReadFirst => output_length(random, FIRST_BYTES),
         Entry::Rewrite => record_length(random),
         Entry::ReadSecond => output_length(random, page.get(1).map_or(0, |&length| usize::from(length))),
+        Entry::WriteFile => output_length(random, file_bytes(page.len() / PAGE_BYTES)),
         _ => 0,
     }
 }

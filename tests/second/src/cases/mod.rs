@@ -2,6 +2,7 @@
 
 pub mod damage;
 pub mod far;
+pub mod files;
 pub mod lengths;
 pub mod pages;
 pub mod systematic;
@@ -15,6 +16,8 @@ pub fn any_call(random: &mut Random) -> Call {
     let entry = random.pick(&Entry::ALL);
     if random.one_in(2) {
         damage::any_combined(random, entry)
+    } else if entry == Entry::WriteFile {
+        files::any_file_call(random)
     } else if entry.takes_page() {
         any_page_call(random, entry)
     } else {

@@ -1,10 +1,13 @@
-//! The fixed part of the differential run: it walks states, header bytes, words, lengths and refusals one by one.
+//! The fixed part of the differential run: it walks states, header bytes, words, lengths, refusals and files one by
+//! one.
 
 use super::damage::{choices, combined};
-use super::lengths::{resized, FAR_RECORD_LENGTHS};
+use super::files::{any_device, numbered, CONTENTS, DEVICES};
+use super::lengths::{resized, FAR_PAGES_LENGTHS, FAR_RECORD_LENGTHS};
 use super::pages::*;
 use super::words::{sum_too_large, with_hole, with_neighbours, Hole, LISTED_VALUES, SPARSE_VALUE};
 use crate::call::{Call, Entry};
+use crate::file::{file_bytes, FILE_PAGES_MOST};
 use crate::page::{data_cells_of, words_of, FIRST_BYTES, PAGE_BYTES, SECOND_BYTES_MOST, WORDS};
 use crate::random::Random;
 use crate::word::{cells_with_sum, legal_word, number_of, weight, CELLS, LARGEST_SUM, LARGEST_VALUE};
@@ -41,6 +44,10 @@ pub fn calls() -> Vec<Call> {
     walk.page_lengths();
     walk.data_lengths();
     walk.refusals();
+    walk.devices();
+    walk.contents();
+    walk.file_lengths();
+    walk.pages_lengths();
     walk.calls
 }
 
@@ -192,6 +199,60 @@ impl Walk {
             }
         }
     }
+
+    /// A call of write file with an output of this length, which holds any bytes.
+    fn file(&mut self, device: u32, pages: &[u8], length: usize) {
+        let output = self.random.bytes(length);
+        self.calls.push(Call::of_file(device, pages.to_vec(), output));
+    }
+
+    /// Calls of write file for any device, with pages that differ, and outputs of these lengths.
+    fn files(&mut self, pages_length: usize, lengths: &[usize]) {
+        let pages = numbered(&mut self.random, pages_length);
+        for &length in lengths {
+            let device = any_device(&mut self.random);
+            self.file(device, &pages, length);
+        }
+    }
+
+    /// Every device number with one bit set, the listed ones and any, in files of no page and of one.
+    fn devices(&mut self) {
+        let any = self.random.draw() as u32;
+        for device in (0..32).map(|bit| 1 << bit).chain(DEVICES).chain([any, !any]) {
+            self.file(device, &[], file_bytes(0));
+            self.file(device, &self.first.clone(), file_bytes(1));
+        }
+    }
+
+    /// Every number of pages with each kind of contents.
+    fn contents(&mut self) {
+        for (count, contents) in (0..=FILE_PAGES_MOST).flat_map(|count| CONTENTS.map(|contents| (count, contents))) {
+            let device = any_device(&mut self.random);
+            let pages = contents(&mut self.random, PAGE_BYTES * count);
+            self.file(device, &pages, file_bytes(count));
+        }
+    }
+
+    /// Every number of pages with an output that is empty, one short, exact, one longer and longer; and every output
+    /// length 0 to 540 for the fewest pages.
+    fn file_lengths(&mut self) {
+        for count in 0..=FILE_PAGES_MOST {
+            let exact = file_bytes(count);
+            self.files(PAGE_BYTES * count, &[0, exact - 1, exact, exact + 1, exact + 7, exact + 259]);
+        }
+        let lengths: Vec<usize> = (0..=540).collect();
+        (0..=2).for_each(|count| self.files(PAGE_BYTES * count, &lengths));
+    }
+
+    /// Every length of the pages 0 to 520, the lengths beside every number of pages, and lengths beyond: with outputs
+    /// that are empty, one short for the whole pages, and long enough for one page more.
+    fn pages_lengths(&mut self) {
+        let beside = (1..=FILE_PAGES_MOST).flat_map(|count| [PAGE_BYTES * count - 1, PAGE_BYTES * count + 1]);
+        for length in (0..=520).chain(beside).chain(FAR_PAGES_LENGTHS) {
+            let count = length / PAGE_BYTES;
+            self.files(length, &[0, file_bytes(count) - 1, file_bytes(count + 1)]);
+        }
+    }
 }
 
 #[cfg(test)]
@@ -284,7 +345,7 @@ mod tests {
 
     #[test]
     fn the_number_of_calls() {
-        assert_eq!(answered().len(), 46_924);
+        assert_eq!(answered().len(), 52_081);
     }
 
     /// "cell 0 is worth 2971215073": that word alone, and its neighbours.
@@ -375,6 +436,44 @@ mod tests {
             let sound = |call: &Call| call.page.is_empty() || call.page[0] == asked(entry).0;
             occurs(entry, 0..=520, |call, _| sound(call).then_some(call.page.len()));
         }
+    }
+
+    #[test]
+    fn every_bit_of_a_device_number_and_the_listed_ones() {
+        let wanted = (0..32).map(|bit| 1 << bit).chain(DEVICES.map(u64::from));
+        let wanted = wanted.flat_map(|device| [(device, 12), (device, 271)]);
+        occurs(Entry::WriteFile, wanted, |call, answer| answer.ok().map(|length| (call.argument, length)));
+    }
+
+    /// How much longer the output is than the file, and the answer's number.
+    #[test]
+    fn every_number_of_pages_with_outputs_one_short_exact_and_longer() {
+        let about = [(-1, 3), (0, 0), (1, 0), (7, 0), (259, 0)];
+        let wanted = (0..=64).flat_map(|count| about.map(|(longer, number)| (256 * count, longer, number)));
+        occurs(Entry::WriteFile, wanted, |call, answer| {
+            let longer = call.other.len() as isize - file_bytes(call.page.len() / 256) as isize;
+            output_counts(answer).then(|| (call.page.len(), longer, number(answer)))
+        });
+        let empty = (0..=64).map(|count| 256 * count);
+        occurs(Entry::WriteFile, empty, |call, answer| {
+            (call.other.is_empty() && number(answer) == 3).then_some(call.page.len())
+        });
+    }
+
+    /// With an output too short as well, and with one long enough for every whole page.
+    #[test]
+    fn pages_refused_13() {
+        let lengths = [1, 255, 257, 16_383, 16_385, 16_640, 16_896, 32_768, 65_536, 65_792, 81_920];
+        let wanted = lengths.into_iter().flat_map(|length| [(length, true), (length, false)]);
+        occurs(Entry::WriteFile, wanted, |call, answer| {
+            let short = call.other.len() < file_bytes(call.page.len() / 256);
+            (number(answer) == 13).then_some((call.page.len(), short))
+        });
+    }
+
+    #[test]
+    fn every_pages_length_up_to_520() {
+        occurs(Entry::WriteFile, 0..=520, |call, _| Some(call.page.len()));
     }
 
     /// 0, 175 to 177 and 255 to 257 among them.
