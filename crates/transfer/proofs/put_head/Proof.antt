@@ -21,7 +21,7 @@ add-out : tie.Need-add-out
 add-out c = search needs
 
 slice-write-out-2 : tie.Need-slice-write-out-2
-slice-write-out-2 c = omega (arith, length-set (c .args .out .now) (c .args .k) (c .args .tag))
+slice-write-out-2 c = simp length-set (omega arith)
 
 cast-out-2 : tie.Need-cast-out-2
 cast-out-2 c = search needs
@@ -30,9 +30,7 @@ add-out-2 : tie.Need-add-out-2
 add-out-2 c = search needs
 
 slice-write-out-3 : tie.Need-slice-write-out-3
-slice-write-out-3 c =
-    let o = c .args .out .now in
-    omega (arith, length-set (set o (c .args .k) (c .args .tag)) (c .args .k + 1) (c .args .n / 256), length-set o (c .args .k) (c .args .tag))
+slice-write-out-3 c = simp length-set (omega arith)
 
 same-length : tie.Need-same-length
 same-length c = search needs

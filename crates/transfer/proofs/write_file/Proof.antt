@@ -42,7 +42,7 @@ mul-if2 : tie.Need-mul-if2
 mul-if2 c = search needs
 
 returns-2 : tie.Need-returns-2
-returns-2 c = both-refused _ _ _ _ _ (write-file-13 _ _ _ 0 .1 (inr (c .if2 .taken), refl))
+returns-2 c = both-refused _ _ _ _ _ (write-file-13 _ _ _ 0 .1 (inr (omega (arith, c .if2 .taken)), refl))
 
 mul-end : tie.Need-mul-end
 mul-end c = search needs
@@ -61,7 +61,7 @@ returns-3 c =
     let p = a .pages .now in
     let e : length p ≡ 256 * (length p / 256) = omega arith in
     both-refused _ _ _ _ _
-    (write-file-3 (a .device) p (a .out .now) 0 .1 ((whole .if1 .left, most .if2 .left), omega (arith, length-file (a .device) (length p / 256) p e), refl))
+    (write-file-3 (a .device) p (a .out .now) 0 .1 ((whole .if1 .left, omega (arith, most .if2 .left)), omega (arith, length-file (a .device) (length p / 256) p e), refl))
 
 put-start-requires : tie.Need-put-start-requires
 put-start-requires c κs = search needs
@@ -100,7 +100,7 @@ returns-4 c =
     let size : 12 + 259 * n ≡ length (fileOf (a .device) p) = sym (length-file (a .device) n p e) in
     let size' : 9 + 259 * n + 3 ≡ length (fileOf (a .device) p) = omega (arith, size) in
     both-done _ _ _ _ _
-    (write-file (a .device) p (a .out .now) (9 + 259 * n + 3) .1 ((whole .if1 .left, most .if2 .left), omega (arith, size), size'))
+    (write-file (a .device) p (a .out .now) (9 + 259 * n + 3) .1 ((whole .if1 .left, omega (arith, most .if2 .left)), omega (arith, size), size'))
     (parts (a .device) n p (a .out .now) _ _ _ _ e (omega arith) (first .put-start .ensures) (device .put-device .ensures) (pages .put-pages .ensures) (end .put-head .ensures))
 
 pub write-file-spec : {M : Type 1} → statement M
