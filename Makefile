@@ -7,16 +7,19 @@ SECOND = CARGO_TARGET_DIR=target/second cargo run --quiet --release --offline --
 test:
 	.ci/run
 
-# A page's life in a logger, then the listing of the pages that it leaves.
+# A page's life in a logger, then the listing of the pages that it leaves, and the file that carries them away.
 demo: archive
 	@echo 'proving and compiling the listing program (target/listing.log)'
 	@rt check listing >target/listing.log 2>&1 || { cat target/listing.log; exit 1; }
 	@mkdir -p target/demo
 	$(CC99) -o target/demo/logger examples/logger.c target/staticlib/libwom.a
+	$(CC99) -o target/demo/carry examples/carry.c target/staticlib/libwom.a
 	@echo
 	@target/demo/logger target/demo/pages.bin
 	@printf '\nThe listing of target/demo/pages.bin (target/bin/listing reads pages from its standard input):\n'
 	@target/bin/listing <target/demo/pages.bin
+	@echo
+	@target/demo/carry 0x12345678 target/demo/pages.bin target/demo/lift.bin
 
 # The archive for C programs, with include/wom.h.
 archive:
