@@ -1,17 +1,17 @@
 -- What stands where in a file of n pages.
 -- Assumes nothing.
-use mathlib.Core.List.{List, [], _∷_, _++_, append-assoc, append-nil}
-use mathlib.Core.Path.{_≡_, refl, sym, ap, ap₂, _∙_}
-use Prim.Native.Nat.{ℕ, zero, suc, _+_, _-_, _*_, _/_, _^_, _≤_, _<_}
+use mathlib.Core.List.{List, [], _∷_, _++_, append-assoc}
+use mathlib.Core.Path.{_≡_, sym, ap, _∙_}
+use Prim.Native.Nat.{ℕ, suc, _+_, _-_, _*_, _/_, _^_, _≤_, _<_}
 use native.Mathlib.Omega.{arith}
 use lib.ListN.{length, take, drop, length-append, length-drop}
-use lib.Seq.{drop-drop, take-at, drop-at, length-take-le, take-length}
+use lib.Seq.{drop-drop, take-at, drop-at, length-take-le}
 use Rattle.cells.specs.Cells.{number, cells}
-use Rattle.cells.specs.Bytes.{bits, bytes}
+use Rattle.cells.specs.Bytes.{bits}
 use Rattle.cells.proofs.Numbers.{number-cells, length-cells}
 use Rattle.cells.proofs.Bytes.{bits-bytes}
-use Rattle.transfer.specs.File.{start, highFirst, head, field, deviceField, pageFields, endField, fileOf}
-use Rattle.transfer.proofs.Fields.{head-bytes, length-head, length-highFirst, length-field, field-of, pageFields-cut, length-pageFields}
+use Rattle.transfer.specs.File.{start, highFirst, head, deviceField, pageFields, endField, fileOf}
+use Rattle.transfer.proofs.Fields.{head-bytes, length-head, length-highFirst, length-field, field-of, field-empty, pageFields-cut, length-pageFields}
 
 -- the start and the device number's field
 abbrev pub front : ℕ → List ℕ
@@ -22,9 +22,9 @@ unfolding deviceField
 length-front d =
     length-append start (deviceField d) ∙ omega (arith, length-field 2 (highFirst 4 d), length-highFirst 4 d)
 
-pub length-end : length endField ≡ 3
-unfolding endField
-length-end = length-field 0x7F []
+-- what stands before page i's field
+pub length-before : (d i : ℕ) (P : List ℕ) → 256 * i ≤ length P → length (front d ++ pageFields i P) ≡ 9 + 259 * i
+length-before d i P h = length-append (front d) (pageFields i P) ∙ omega (arith, length-front d, length-pageFields i P h)
 
 -- the file of n pages
 pub file-of : (d n : ℕ) (P : List ℕ) → length P ≡ 256 * n → fileOf d P ≡ front d ++ pageFields n P ++ endField
@@ -32,10 +32,11 @@ unfolding fileOf
 file-of d n P h = let e : length P / 256 ≡ n = omega arith in ap (λ (k : ℕ). front d ++ pageFields k P ++ endField) e
 
 pub length-file : (d n : ℕ) (P : List ℕ) → length P ≡ 256 * n → length (fileOf d P) ≡ 12 + 259 * n
+unfolding endField
 length-file d n P h =
     ap length (file-of d n P h)
     ∙ length-append (front d ++ pageFields n P) endField
-    ∙ omega (arith, length-append (front d) (pageFields n P), length-front d, length-pageFields n P (omega arith), length-end)
+    ∙ omega (arith, length-before d n P (omega arith), length-field 0x7F [])
 
 -- ---- the front
 
@@ -57,7 +58,7 @@ file-front d P =
 pub first-bytes : (d : ℕ) (P : List ℕ) → take 5 (fileOf d P) ≡ 0xF1 ∷ 0xB0 ∷ 0x02 ∷ 0 ∷ 4 ∷ []
 first-bytes d P = ap (take 5) (file-front d P)
 
-pub device-bytes : (d : ℕ) (P : List ℕ) → take 4 (drop 5 (fileOf d P)) ≡ highFirst 4 d
+device-bytes : (d : ℕ) (P : List ℕ) → take 4 (drop 5 (fileOf d P)) ≡ highFirst 4 d
 device-bytes d P =
     ap (λ (l : List ℕ). take 4 (drop 5 l)) (file-front d P)
     ∙ take-at (highFirst 4 d) (pageFields (length P / 256) P ++ endField) 4 (length-highFirst 4 d)
@@ -92,16 +93,14 @@ module _ (d n i : ℕ) (P : List ℕ) (h : length P ≡ 256 * n) (b : i < n) whe
   unfolding pageFields
   file-from =
       let m = n - suc i in
-      let before = front d ++ pageFields i P in
       let e : n ≡ i + suc m = omega arith in
       let cut : pageFields n P ≡ pageFields i P ++ (head 1 256 ++ page ++ pageFields m (drop 256 (drop (256 * i) P))) =
       ap (λ (k : ℕ). pageFields k P) e ∙ pageFields-cut i (suc m) P
       ∙ ap (λ (f : List ℕ). pageFields i P ++ (f ++ pageFields m (drop 256 (drop (256 * i) P)))) (field-of 1 256 page length-page) in
-      let l : length before ≡ 9 + 259 * i = length-append (front d) (pageFields i P) ∙ omega (arith, length-front d, length-pageFields i P (omega arith)) in
       ap (drop (9 + 259 * i))
       (file-of d n P h ∙ ap (λ (f : List ℕ). front d ++ f ++ endField) cut
       ∙ regroup (front d) (pageFields i P) (head 1 256) page (pageFields m (drop 256 (drop (256 * i) P))) endField)
-      ∙ drop-at before (head 1 256 ++ (page ++ later)) (9 + 259 * i) l
+      ∙ drop-at (front d ++ pageFields i P) (head 1 256 ++ (page ++ later)) (9 + 259 * i) (length-before d i P (omega arith))
 
   pub page-head : take 3 (drop (9 + 259 * i) (fileOf d P)) ≡ 0x01 ∷ 1 ∷ 0 ∷ []
   page-head = ap (take 3) file-from ∙ take-at (head 1 256) (page ++ later) 3 (length-head 1 256) ∙ head-bytes 1 256 (omega arith)
@@ -116,8 +115,8 @@ module _ (d n i : ℕ) (P : List ℕ) (h : length P ≡ 256 * n) (b : i < n) whe
 -- ---- the end
 
 pub last-bytes : (d n : ℕ) (P : List ℕ) → length P ≡ 256 * n → drop (9 + 259 * n) (fileOf d P) ≡ 0x7F ∷ 0 ∷ 0 ∷ []
-unfolding endField field
+unfolding endField
 last-bytes d n P h =
     ap (drop (9 + 259 * n)) (file-of d n P h)
-    ∙ drop-at (front d ++ pageFields n P) endField (9 + 259 * n) (length-append (front d) (pageFields n P) ∙ omega (arith, length-front d, length-pageFields n P (omega arith)))
-    ∙ ap (λ (l : List ℕ). l ++ []) (head-bytes 0x7F 0 (omega arith))
+    ∙ drop-at (front d ++ pageFields n P) endField (9 + 259 * n) (length-before d n P (omega arith))
+    ∙ field-empty 0x7F ∙ head-bytes 0x7F 0 (omega arith)

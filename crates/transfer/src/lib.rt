@@ -7,7 +7,7 @@ ghost use mathlib.Core.Path.{_≡_};
 ghost use Prim.Native.Nat.{_+_, _*_, _≤_};
 ghost use lib.ListN.{length, take, drop};
 ghost use lib.Seq.{sets};
-ghost use Rattle.transfer.specs.File.{start, head, deviceField, pageFields, endField};
+ghost use Rattle.transfer.specs.File.{start, head, deviceField, pageFields};
 ghost use Rattle.transfer.specs.Answer.{writeFileAnswer, writeFileLeaves, fileWrittenCode};
 
 // What writing a file gives.

@@ -15,7 +15,7 @@ pub record WordAnswersFaithful : Type 0 where
   pub fill : (word : ℕ) → Faithful (fillAnswer word)
   pub capacity : (word : ℕ) → Faithful (capacityAnswer word)
 
--- and for every page, record and output; device number, pages' bytes and output
+-- and for every page, record and output; for every device number, all pages and every output
 pub record PageAnswersFaithful : Type 0 where
   pub write-first : (P D : List ℕ) → Faithful (writeFirstAnswer P D)
   pub read-first : (P out : List ℕ) → Faithful (readFirstAnswer P out)
