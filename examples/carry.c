@@ -83,9 +83,8 @@ static size_t write_whole(uint32_t device, size_t length)
     uint64_t answer = write_file(device, length);
 
     if (wom_refusal(answer) != 0 && piece != 0) {
-        printf("   The piece of %zu bytes at the end, no whole page, is left "
-               "out.\n",
-               piece);
+        printf("   The piece at the end, %zu of %d bytes, is left out.\n",
+               piece, WOM_PAGE_BYTES);
         answer = write_file(device, length - piece);
     }
     return wom_refusal(answer) == 0 ? (size_t)wom_result(answer) : 0;
