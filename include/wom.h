@@ -424,8 +424,8 @@ uint64_t wom_read_second(const uint8_t *page, size_t page_length,
 
 #define WOM_FILE_PAGES_MAX 64 /* the most pages of a transfer file */
 
-/* The size in bytes of a transfer file of n pages, 0 to 64; a constant where n
- * is one. */
+/* The size in bytes of a transfer file of n pages, 0 to 64; for a constant n a
+ * constant, as an array's size must be. */
 #define WOM_FILE_BYTES(n) (12 + 259 * (size_t)(n))
 
 /*! wom_write_file() :
