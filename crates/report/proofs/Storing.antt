@@ -4,14 +4,14 @@ use mathlib.Core.Path.{_≡_, sym, ap, ap₂, _∙_}
 use Prim.Native.Nat.{ℕ, _+_, _≤_}
 use native.Mathlib.Omega.{arith}
 use lib.ListN.{length, take, drop, length-append}
-use lib.Seq.{sets, take-at, sets-eq}
-use Rattle.cells.proofs.Storing.{sets-append}
+use lib.Seq.{sets, take-at}
+use Rattle.cells.specs.Bytes.{atStart}
+use Rattle.cells.proofs.Storing.{sets-append, sets-atStart}
 
 -- a text stored at the start is what stands there
 pub sets-taken : (out text : List ℕ) (k : ℕ) → k ≡ length text → k ≤ length out → take k (sets out 0 text) ≡ text
-sets-taken out text k e h =
-    let fits : 0 + length text ≤ length out = omega arith in
-    ap (take k) (sets-eq text out 0 fits) ∙ take-at text (drop (0 + length text) out) k (sym e)
+unfolding atStart
+sets-taken out text k e h = ap (take k) (sets-atStart out text (omega arith)) ∙ take-at text (drop (length text) out) k (sym e)
 
 -- a text is put into a line from byte `at` on, and r is the place after it
 pub record Put (old : List ℕ) (at : ℕ) (text : List ℕ) (r : ℕ) (new : List ℕ) : Type 0 where

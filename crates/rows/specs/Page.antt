@@ -7,8 +7,8 @@ use mathlib.Core.Path.{_≡_}
 use Prim.Native.Nat.{ℕ, zero, suc, _+_, _*_, _/_, _≤_, _<_}
 use lib.Dec.{T, eqb}
 use lib.ListN.{length, take, drop, getD, replicate}
-use Rattle.cells.specs.Cells.{number, cells, someSet}
-use Rattle.cells.specs.Bytes.{bits, bytes, Bytes, zeros}
+use Rattle.cells.specs.Cells.{number, someSet}
+use Rattle.cells.specs.Bytes.{bits, bytes, highFirst, Bytes, zeros}
 use Rattle.window.specs.Words.{wordAt, pageWords, putWords}
 use Rattle.word.specs.Word.{sum, legal, zeckendorf}
 use Rattle.word.specs.Fill.{fill, read, capacity, put, wellFormed}
@@ -61,7 +61,7 @@ firstWords (suc n) bs = zeckendorf 46 (number (bits (take 4 bs))) ∷ firstWords
 -- the first record of words: each word's value as four bytes, highest first
 unfoldable pub firstRecord : List (List Bool) → List ℕ
 firstRecord [] = []
-firstRecord (w ∷ ws) = bytes 4 (cells 32 (sum w)) ++ firstRecord ws
+firstRecord (w ∷ ws) = highFirst 4 (sum w) ++ firstRecord ws
 
 -- a blank page after a first record was written: state 01 and the record's words
 unfoldable pub firstPage : Shape → List ℕ → List ℕ → List ℕ
