@@ -19,7 +19,8 @@
 #define COUNT 100
 
 /* The worst pages come after the random ones. Write first and read first have a
- * turn for each set cell, rewrite and read second one for each data cell. */
+ * turn for each set cell, write second and read second one for each data cell;
+ * page capacity and fill page take the same on every page. */
 enum { MOST_SET = COUNT, MOST_ROOM, SHORT_RECORD, ACCEPTED };
 
 /* All 44 words have the value. */
@@ -32,17 +33,17 @@ static const struct {
     {0, 7}, /* of all lengths the longest to copy and to test the spare cells */
 };
 
-#define REFUSED 17
+#define REFUSED 25
 #define PAGES (ACCEPTED + REFUSED)
 
 typedef uint8_t page_bytes[WOM_PAGE_BYTES];
 
 /* For each page: the first record, the second record and its length, and the
- * page in its three states. The refused ones are compared only. */
+ * page in its four states. The refused ones are compared only. */
 static uint8_t data[PAGES][WOM_FIRST_BYTES];
 static uint8_t record[PAGES][WOM_SECOND_BYTES_MAX];
 static size_t record_length[PAGES];
-static page_bytes blank[PAGES], first[PAGES], second[PAGES];
+static page_bytes blank[PAGES], first[PAGES], filled[PAGES], second[PAGES];
 
 /* What a call works on. */
 static page_bytes page;
@@ -54,16 +55,16 @@ static uint8_t out[WOM_FIRST_BYTES];
         memcpy(page, blank[i], sizeof page);                          \
         return f(page, sizeof page, data[i], sizeof data[i]);         \
     }
-#define WITH_PAGE(f)                                                  \
-    static uint64_t call_##f(int i)                                   \
+#define WITH_PAGE(name, f, pages)                                     \
+    static uint64_t call_##name(int i)                                \
     {                                                                 \
-        memcpy(page, first[i], sizeof page);                          \
+        memcpy(page, pages[i], sizeof page);                          \
         return f(page, sizeof page);                                  \
     }
 #define WITH_RECORD(f)                                                \
     static uint64_t call_##f(int i)                                   \
     {                                                                 \
-        memcpy(page, first[i], sizeof page);                          \
+        memcpy(page, filled[i], sizeof page);                         \
         return f(page, sizeof page, record[i], record_length[i]);     \
     }
 #define WITH_OUTPUT(f, pages)                                         \
@@ -82,13 +83,19 @@ WITH_DATA(wom_write_first)
 WITH_DATA(plain_write_first)
 WITH_OUTPUT(wom_read_first, first)
 WITH_OUTPUT(plain_read_first, first)
-WITH_PAGE(wom_page_capacity)
-WITH_PAGE(plain_page_capacity)
-WITH_RECORD(wom_rewrite)
-WITH_RECORD(plain_rewrite)
+WITH_PAGE(wom_page_capacity, wom_page_capacity, first)
+WITH_PAGE(plain_page_capacity, plain_page_capacity, first)
+WITH_PAGE(wom_filled_capacity, wom_page_capacity, filled)
+WITH_PAGE(plain_filled_capacity, plain_page_capacity, filled)
+WITH_PAGE(wom_fill_page, wom_fill_page, first)
+WITH_PAGE(plain_fill_page, plain_fill_page, first)
+WITH_RECORD(wom_write_second)
+WITH_RECORD(plain_write_second)
 WITH_OUTPUT(wom_read_second, second)
 WITH_OUTPUT(plain_read_second, second)
 
+/* Page capacity stands here twice: of a first-round page, and under the name
+ * filled_capacity of a filled page. */
 static const struct operation operations[] = {
     {"nothing", call_nothing, MOST_SET},
     {"wom_write_first", call_wom_write_first, MOST_SET},
@@ -97,8 +104,12 @@ static const struct operation operations[] = {
     {"plain_read_first", call_plain_read_first, MOST_SET},
     {"wom_page_capacity", call_wom_page_capacity, MOST_ROOM},
     {"plain_page_capacity", call_plain_page_capacity, MOST_ROOM},
-    {"wom_rewrite", call_wom_rewrite, MOST_ROOM},
-    {"plain_rewrite", call_plain_rewrite, MOST_ROOM},
+    {"wom_filled_capacity", call_wom_filled_capacity, MOST_ROOM},
+    {"plain_filled_capacity", call_plain_filled_capacity, MOST_ROOM},
+    {"wom_fill_page", call_wom_fill_page, MOST_ROOM},
+    {"plain_fill_page", call_plain_fill_page, MOST_ROOM},
+    {"wom_write_second", call_wom_write_second, MOST_ROOM},
+    {"plain_write_second", call_plain_write_second, MOST_ROOM},
     {"wom_read_second", call_wom_read_second, SHORT_RECORD},
     {"plain_read_second", call_plain_read_second, SHORT_RECORD},
 };
@@ -110,8 +121,10 @@ enum {
     WRITE_FIRST = 1,
     READ_FIRST = 3,
     PAGE_CAPACITY = 5,
-    REWRITE = 7,
-    READ_SECOND = 9
+    FILLED_CAPACITY = 7,
+    FILL_PAGE = 9,
+    WRITE_SECOND = 11,
+    READ_SECOND = 13
 };
 
 /* Page 0, with one of its bytes put to another value, or its record made
@@ -131,10 +144,18 @@ static const struct refused {
     {PAGE_CAPACITY, 0, 0x00, 0, 5},
     {PAGE_CAPACITY, 2, 0x01, 0, 6},
     {PAGE_CAPACITY, 3, 0xff, 0, 7},
-    {REWRITE, 0, 0xff, 0, 5},
-    {REWRITE, 1, 0x80, 0, 6},
-    {REWRITE, 128, 0xff, 0, 7},
-    {REWRITE, 0, 0x01, 1, 8},
+    {FILLED_CAPACITY, 0, 0x07, 0, 5},
+    {FILLED_CAPACITY, 1, 0x01, 0, 6},
+    {FILLED_CAPACITY, 3, 0x00, 0, 7},   /* not well formed */
+    {FILLED_CAPACITY, 255, 0xff, 0, 7}, /* a data cell is set */
+    {FILL_PAGE, 0, 0x03, 0, 5},
+    {FILL_PAGE, 1, 0x80, 0, 6},
+    {FILL_PAGE, 128, 0xff, 0, 7},
+    {WRITE_SECOND, 0, 0x01, 0, 5},
+    {WRITE_SECOND, 2, 0x80, 0, 6},
+    {WRITE_SECOND, 255, 0x00, 0, 7}, /* not well formed */
+    {WRITE_SECOND, 128, 0xff, 0, 7}, /* a data cell is set */
+    {WRITE_SECOND, 0, 0x03, 1, 8},
     {READ_SECOND, 0, 0x01, 0, 5},
     {READ_SECOND, 1, 127, 0, 6},
     {READ_SECOND, 3, 0x00, 0, 7},
@@ -160,8 +181,9 @@ static void put_values(uint8_t *bytes, uint32_t value)
         bytes[i] = (uint8_t)(value >> (24 - 8 * (i % 4)));
 }
 
-/* Page i in its first and its second round, from its first record and a random
- * second one: the longest that fits, of at most that many bytes. */
+/* Page i in its first round, filled and in its second round, from its first
+ * record and a random second one: the longest that fits, of at most that many
+ * bytes. */
 static void make_page(int i, size_t longest, uint64_t *state)
 {
     size_t fits;
@@ -170,8 +192,11 @@ static void make_page(int i, size_t longest, uint64_t *state)
     fits = plain_page_capacity(first[i], sizeof first[i]) / 8;
     record_length[i] = fits < longest ? fits : longest;
     fill_at_random(record[i], record_length[i], state);
-    memcpy(second[i], first[i], sizeof second[i]);
-    plain_rewrite(second[i], sizeof second[i], record[i], record_length[i]);
+    memcpy(filled[i], first[i], sizeof filled[i]);
+    plain_fill_page(filled[i], sizeof filled[i]);
+    memcpy(second[i], filled[i], sizeof second[i]);
+    plain_write_second(second[i], sizeof second[i], record[i],
+                       record_length[i]);
 }
 
 static void make_pages(void)
@@ -200,9 +225,11 @@ static void make_refused(void)
         memcpy(record[i], record[0], sizeof record[i]);
         record_length[i] = record_length[0] + row->longer;
         memcpy(first[i], first[0], sizeof first[i]);
+        memcpy(filled[i], filled[0], sizeof filled[i]);
         memcpy(second[i], second[0], sizeof second[i]);
         blank[i][row->byte] = row->value;
         first[i][row->byte] = row->value;
+        filled[i][row->byte] = row->value;
         second[i][row->byte] = row->value;
     }
 }

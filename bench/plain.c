@@ -112,6 +112,7 @@ uint64_t plain_word_capacity(uint64_t word)
 #define LONGEST_RECORD 126
 
 #define FIRST_ROUND 0x01
+#define FILLED 0x03
 #define SECOND_ROUND 0x07
 
 static uint64_t refuse(unsigned number, uint64_t index)
@@ -174,17 +175,27 @@ uint64_t plain_write_first(uint8_t *page, size_t page_length,
     return 0;
 }
 
-/* 0 for a first-round page. */
-static uint64_t check_first_round(const uint8_t *page, size_t page_length)
+/* 0 for a page of that state, with bytes 1 and 2 at 0. */
+static uint64_t check_header(const uint8_t *page, size_t page_length,
+                             uint8_t state)
 {
-    int w;
-
     if (page_length != PAGE)
         return refuse(1, 0);
-    if (page[0] != FIRST_ROUND)
+    if (page[0] != state)
         return refuse(5, 0);
     if (page[1] != 0 || page[2] != 0)
         return refuse(6, 0);
+    return 0;
+}
+
+/* 0 for a first-round page. */
+static uint64_t check_first_round(const uint8_t *page, size_t page_length)
+{
+    uint64_t refused = check_header(page, page_length, FIRST_ROUND);
+    int w;
+
+    if (refused)
+        return refused;
     for (w = 0; w < WORDS; w++)
         if (plain_decode_word(load_word(page, w)) >> 56)
             return refuse(7, (uint64_t)w);
@@ -212,43 +223,16 @@ uint64_t plain_read_first(const uint8_t *page, size_t page_length,
     return 0;
 }
 
-uint64_t plain_page_capacity(const uint8_t *page, size_t page_length)
+uint64_t plain_fill_page(uint8_t *page, size_t page_length)
 {
     uint64_t refused = check_first_round(page, page_length);
-    uint64_t capacity = 0;
     int w;
 
     if (refused)
         return refused;
     for (w = 0; w < WORDS; w++)
-        capacity += count_data_cells(fill(load_word(page, w)));
-    return capacity;
-}
-
-uint64_t plain_rewrite(uint8_t *page, size_t page_length,
-                       const uint8_t *record, size_t record_length)
-{
-    uint64_t capacity = plain_page_capacity(page, page_length);
-    unsigned next = 0;
-    unsigned bits;
-    int w, n;
-
-    if (capacity >> 56)
-        return capacity;
-    if (record_length > capacity / 8)
-        return refuse(8, capacity);
-    bits = 8 * (unsigned)record_length;
-    for (w = 0; w < WORDS; w++) {
-        uint64_t filled = fill(load_word(page, w));
-        uint64_t word = filled;
-
-        for (n = 45; n > 0 && next < bits; n--)
-            if (cell(filled, n))
-                word |= (uint64_t)record_bit(record, next++) << (n - 1);
-        store_word(page, w, word);
-    }
-    page[0] = SECOND_ROUND;
-    page[1] = (uint8_t)record_length;
+        store_word(page, w, fill(load_word(page, w)));
+    page[0] = FILLED;
     return 0;
 }
 
@@ -266,6 +250,92 @@ static int is_full(uint64_t separators)
         left = cell(separators, n);
     }
     return 1;
+}
+
+/* Whether the word is well formed and no data cell is set: each set cell is
+ * then a separator, and the cell right after it is not set. */
+static int is_filled(uint64_t word)
+{
+    int n;
+
+    for (n = 45; n > 0; n--)
+        if (cell(word, n) && cell(word, n - 1))
+            return 0;
+    return is_full(word);
+}
+
+/* 0 for a filled page. */
+static uint64_t check_filled(const uint8_t *page, size_t page_length)
+{
+    uint64_t refused = check_header(page, page_length, FILLED);
+    int w;
+
+    if (refused)
+        return refused;
+    for (w = 0; w < WORDS; w++)
+        if (!is_filled(load_word(page, w)))
+            return refuse(7, (uint64_t)w);
+    return 0;
+}
+
+static uint64_t first_round_capacity(const uint8_t *page, size_t page_length)
+{
+    uint64_t refused = check_first_round(page, page_length);
+    uint64_t capacity = 0;
+    int w;
+
+    if (refused)
+        return refused;
+    for (w = 0; w < WORDS; w++)
+        capacity += count_data_cells(fill(load_word(page, w)));
+    return capacity;
+}
+
+static uint64_t filled_capacity(const uint8_t *page, size_t page_length)
+{
+    uint64_t refused = check_filled(page, page_length);
+    uint64_t capacity = 0;
+    int w;
+
+    if (refused)
+        return refused;
+    for (w = 0; w < WORDS; w++)
+        capacity += count_data_cells(load_word(page, w));
+    return capacity;
+}
+
+uint64_t plain_page_capacity(const uint8_t *page, size_t page_length)
+{
+    if (page_length == PAGE && page[0] == FILLED)
+        return filled_capacity(page, page_length);
+    return first_round_capacity(page, page_length);
+}
+
+uint64_t plain_write_second(uint8_t *page, size_t page_length,
+                            const uint8_t *record, size_t record_length)
+{
+    uint64_t capacity = filled_capacity(page, page_length);
+    unsigned next = 0;
+    unsigned bits;
+    int w, n;
+
+    if (capacity >> 56)
+        return capacity;
+    if (record_length > capacity / 8)
+        return refuse(8, capacity);
+    bits = 8 * (unsigned)record_length;
+    for (w = 0; w < WORDS; w++) {
+        uint64_t filled = load_word(page, w);
+        uint64_t word = filled;
+
+        for (n = 45; n > 0 && next < bits; n--)
+            if (cell(filled, n))
+                word |= (uint64_t)record_bit(record, next++) << (n - 1);
+        store_word(page, w, word);
+    }
+    page[0] = SECOND_ROUND;
+    page[1] = (uint8_t)record_length;
+    return 0;
 }
 
 uint64_t plain_read_second(const uint8_t *page, size_t page_length,

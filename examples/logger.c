@@ -1,12 +1,14 @@
 /*
  * The life of one log page between two erases, as a lift's logger calls the
- * library: the page is written, fetched by the service van, written again over
- * the same cells, and read back from the flash part alone.
+ * library: the page is written, fetched by the service van, filled in a quiet
+ * hour, written again over the same cells at a busy one, and read back from the
+ * flash part alone.
  *
  *     logger          prints each step, and the page's bytes and cells
  *     logger PATH     also writes pages to the file PATH, for the listing
- *                     program: blank, first round, second round, a damaged
- *                     copy of the latter two, and a piece of 100 bytes
+ *                     program: blank, first round, filled, second round, a
+ *                     damaged copy of the latter three, and a piece of 100
+ *                     bytes
  *     logger plant    clears a set cell of the second page before the part is
  *                     programmed with it, which the part cannot do
  *
@@ -163,9 +165,11 @@ static int same(const char *what, const uint8_t *came, const uint8_t *expected,
 
 /* ---- The page's life --------------------------------------------------- */
 
-/* The page before the first writing, and as the part was given it by each. */
+/* The page before the first writing, and as the part was given it by each of
+ * the three. */
 static const uint8_t blank_page[WOM_PAGE_BYTES] = {0};
 static uint8_t first_page[WOM_PAGE_BYTES];
+static uint8_t filled_page[WOM_PAGE_BYTES];
 static uint8_t second_page[WOM_PAGE_BYTES];
 
 static int write_first_record(void)
@@ -218,7 +222,31 @@ static int measure(uint64_t *capacity)
     return 1;
 }
 
-/* A record one byte too long is refused, and leaves the page as it was. */
+static int fill_ahead(uint64_t capacity)
+{
+    uint64_t answer;
+
+    memcpy(filled_page, part.cells, sizeof filled_page);
+    if (!accepted("wom_fill_page",
+                  wom_fill_page(filled_page, sizeof filled_page)) ||
+        !program(filled_page))
+        return 0;
+    answer = wom_page_capacity(part.cells, sizeof part.cells);
+    if (!accepted("wom_page_capacity", answer))
+        return 0;
+    if (wom_result(answer) != capacity) {
+        fprintf(stderr, "logger: the fill changed the capacity\n");
+        return 0;
+    }
+    printf("4  In a quiet hour the page is filled, ahead of time.\n"
+           "   wom_fill_page accepts; one program operation sets %u further "
+           "cells.\n"
+           "   wom_page_capacity: %" PRIu64 " bits, as before.\n",
+           set_beyond(filled_page, first_page), wom_result(answer));
+    return 1;
+}
+
+/* A record one byte too long is refused, and leaves the page filled. */
 static int try_too_long(uint64_t capacity)
 {
     static const uint8_t record[WOM_SECOND_BYTES_MAX + 1] = {0};
@@ -226,20 +254,20 @@ static int try_too_long(uint64_t capacity)
     uint64_t answer;
 
     memcpy(second_page, part.cells, sizeof second_page);
-    answer = wom_rewrite(second_page, sizeof second_page, record, length);
+    answer = wom_write_second(second_page, sizeof second_page, record, length);
     if (wom_refusal(answer) != WOM_REFUSED_RECORD_LENGTH ||
         wom_index(answer) != capacity) {
-        fprintf(stderr, "logger: wom_rewrite: number %u, index %" PRIu64
+        fprintf(stderr, "logger: wom_write_second: number %u, index %" PRIu64
                         ", expected number 8, index %" PRIu64 "\n",
                 wom_refusal(answer), wom_index(answer), capacity);
         return 0;
     }
-    if (!same("the page after a refusal", second_page, part.cells,
+    if (!same("the page after a refusal", second_page, filled_page,
               sizeof second_page))
         return 0;
-    printf("4  A record of %zu bytes is tried.\n"
-           "   wom_rewrite refuses: number %u, index %" PRIu64
-           ", the capacity. The page is unchanged.\n",
+    printf("5  A record of %zu bytes is tried.\n"
+           "   wom_write_second refuses: number %u, index %" PRIu64
+           ", the capacity. The page remains filled.\n",
            length, wom_refusal(answer), wom_index(answer));
     return 1;
 }
@@ -257,19 +285,23 @@ static void clear_a_set_cell(uint8_t *page)
 static int write_second_record(int planted)
 {
     memcpy(second_page, part.cells, sizeof second_page);
-    if (!accepted("wom_rewrite",
-                  wom_rewrite(second_page, sizeof second_page, week,
-                              WOM_SECOND_BYTES_SURE)))
+    if (!accepted("wom_write_second",
+                  wom_write_second(second_page, sizeof second_page, week,
+                                   WOM_SECOND_BYTES_SURE)))
         return 0;
     if (planted)
         clear_a_set_cell(second_page);
     if (!program(second_page))
         return 0;
-    printf("5  The second record, %d bytes, goes over the same cells, without "
-           "an erase.\n"
-           "   wom_rewrite accepts; one program operation sets %u further "
-           "cells.\n",
-           WOM_SECOND_BYTES_SURE, set_beyond(second_page, first_page));
+    printf("6  At the busy hour the second record, %d bytes, goes over the "
+           "same cells, without an erase.\n"
+           "   wom_write_second accepts; one program operation sets %u further "
+           "cells.\n"
+           "   One pulse sets one cell: %u pulses now; with the fill still to "
+           "do, it would be %u.\n",
+           WOM_SECOND_BYTES_SURE, set_beyond(second_page, filled_page),
+           set_beyond(second_page, filled_page),
+           set_beyond(second_page, first_page));
     return 1;
 }
 
@@ -288,7 +320,7 @@ static int read_second_record(uint64_t *length)
     }
     if (!same("the second record", out, week, WOM_SECOND_BYTES_SURE))
         return 0;
-    printf("6  It is read back from the part's cells alone.\n"
+    printf("7  It is read back from the part's cells alone.\n"
            "   wom_read_second gives the same %" PRIu64 " bytes:\n"
            "   %.*s\n",
            *length, (int)*length, (const char *)out);
@@ -297,12 +329,12 @@ static int read_second_record(uint64_t *length)
 
 /* ---- Showing the page -------------------------------------------------- */
 
-/* 16 bytes in hexadecimal, by twos. */
+/* 8 bytes in hexadecimal, by twos. */
 static void print_bytes(const uint8_t *bytes)
 {
     int i;
 
-    for (i = 0; i < 16; i += 2)
+    for (i = 0; i < 8; i += 2)
         printf(" %02x%02x", bytes[i], bytes[i + 1]);
 }
 
@@ -310,11 +342,13 @@ static void print_pages(void)
 {
     int at;
 
-    printf("\nbyte   %-39s    %s\n", "after the first writing",
-           "after the second writing");
-    for (at = 0; at < WOM_PAGE_BYTES; at += 16) {
+    printf("\nbyte   %-22s %-22s %s\n", "first round", "filled",
+           "second round");
+    for (at = 0; at < WOM_PAGE_BYTES; at += 8) {
         printf("%4d  ", at);
         print_bytes(first_page + at);
+        printf("   ");
+        print_bytes(filled_page + at);
         printf("   ");
         print_bytes(second_page + at);
         printf("\n");
@@ -325,7 +359,9 @@ static char mark(int word, int cell)
 {
     if (is_set(first_page, word, cell))
         return '#';
-    return is_set(second_page, word, cell) ? '+' : '.';
+    if (is_set(filled_page, word, cell))
+        return '+';
+    return is_set(second_page, word, cell) ? 'o' : '.';
 }
 
 static void print_word(int word)
@@ -344,8 +380,8 @@ static void print_words(void)
 {
     int word;
 
-    printf("\nCells:  . never set   # set by the first writing   "
-           "+ newly set by the second\n\n"
+    printf("\nCells, newly set by:  # the first writing   + the fill   "
+           "o the second record   . never set\n\n"
            "word  counter             first value  "
            "0    5    10   15   20   25   30   35   40   45\n");
     for (word = 0; word < WOM_WORDS; word++)
@@ -361,10 +397,15 @@ static void print_counts(uint64_t second_bytes)
            8 * WOM_PAGE_BYTES);
     printf("%6u  set by the first writing\n",
            set_beyond(first_page, blank_page));
-    printf("%6u  newly set by the second\n",
-           set_beyond(second_page, first_page));
-    printf("%6u  cleared by the second\n", set_beyond(first_page, second_page));
-    printf("%6u  program operations, one for each writing\n", part.programs);
+    printf("%6u  newly set by the fill\n",
+           set_beyond(filled_page, first_page));
+    printf("%6u  newly set by the second record\n",
+           set_beyond(second_page, filled_page));
+    printf("%6u  cleared by the fill\n", set_beyond(first_page, filled_page));
+    printf("%6u  cleared by the second record\n",
+           set_beyond(filled_page, second_page));
+    printf("%6u  program operations, one for each of the three\n",
+           part.programs);
     printf("%6u  bits stored between two erases, %u and %u, in %d cells\n",
            first_bits + second_bits, first_bits, second_bits,
            8 * WOM_PAGE_BYTES);
@@ -380,32 +421,47 @@ static void damage_first(uint8_t *page)
     set(page, 20, 11);
 }
 
-/* The second-round page with a spare data cell set: refusal 9. The record ends
- * before the last word, whose first set cell is a separator; the next cell is
- * a data cell, and spare. */
-static void damage_second(uint8_t *page)
+/* Sets a data cell of a word that was filled: its first set cell is a
+ * separator, and the next cell a data cell. */
+static void set_data_cell(uint8_t *page, int word)
 {
     int cell = 0;
 
-    memcpy(page, second_page, WOM_PAGE_BYTES);
-    while (!is_set(page, WOM_WORDS - 1, cell))
+    while (!is_set(page, word, cell))
         cell++;
-    set(page, WOM_WORDS - 1, cell + 1);
+    set(page, word, cell + 1);
+}
+
+/* The filled page with a data cell set: refusal 7. */
+static void damage_filled(uint8_t *page)
+{
+    memcpy(page, filled_page, WOM_PAGE_BYTES);
+    set_data_cell(page, 20);
+}
+
+/* The second-round page with a spare data cell set: refusal 9. The record ends
+ * before the last word. */
+static void damage_second(uint8_t *page)
+{
+    memcpy(page, second_page, WOM_PAGE_BYTES);
+    set_data_cell(page, WOM_WORDS - 1);
 }
 
 static int put_pages(FILE *file)
 {
-    uint8_t bad_first[WOM_PAGE_BYTES];
-    uint8_t bad_second[WOM_PAGE_BYTES];
+    uint8_t bad[3][WOM_PAGE_BYTES];
+    const uint8_t *const pages[] = {blank_page,  first_page, filled_page,
+                                    second_page, bad[0],     bad[1],
+                                    bad[2]};
+    size_t i;
 
-    damage_first(bad_first);
-    damage_second(bad_second);
-    return fwrite(blank_page, WOM_PAGE_BYTES, 1, file) == 1 &&
-           fwrite(first_page, WOM_PAGE_BYTES, 1, file) == 1 &&
-           fwrite(second_page, WOM_PAGE_BYTES, 1, file) == 1 &&
-           fwrite(bad_first, WOM_PAGE_BYTES, 1, file) == 1 &&
-           fwrite(bad_second, WOM_PAGE_BYTES, 1, file) == 1 &&
-           fwrite(first_page, PIECE_BYTES, 1, file) == 1;
+    damage_first(bad[0]);
+    damage_filled(bad[1]);
+    damage_second(bad[2]);
+    for (i = 0; i < sizeof pages / sizeof pages[0]; i++)
+        if (fwrite(pages[i], WOM_PAGE_BYTES, 1, file) != 1)
+            return 0;
+    return fwrite(first_page, PIECE_BYTES, 1, file) == 1;
 }
 
 static int write_pages(const char *path)
@@ -432,8 +488,8 @@ static int live(int planted)
            WOM_PAGE_BYTES, 8 * WOM_PAGE_BYTES,
            set_beyond(part.cells, blank_page));
     if (!write_first_record() || !fetch_first_record() || !measure(&capacity) ||
-        !try_too_long(capacity) || !write_second_record(planted) ||
-        !read_second_record(&second_bytes))
+        !fill_ahead(capacity) || !try_too_long(capacity) ||
+        !write_second_record(planted) || !read_second_record(&second_bytes))
         return 0;
     print_pages();
     print_words();

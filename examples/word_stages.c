@@ -93,30 +93,26 @@ static int take_first(struct stages *stages, const uint8_t *page)
     return wom_result(value) == VALUE;
 }
 
-/* The word's own fill, which is also what a page's rewrite with no record
- * leaves. */
-static int take_filled(struct stages *stages, const uint8_t *first_page)
+/* Fills the page; its word 0 is then the word's own fill. */
+static int take_filled(struct stages *stages, uint8_t *page)
 {
     uint64_t filled = wom_fill_word(stages->first);
-    uint8_t page[WOM_PAGE_BYTES];
 
-    memcpy(page, first_page, sizeof page);
-    if (!accepted(filled) || !accepted(wom_rewrite(page, sizeof page, NULL, 0)))
+    if (!accepted(filled) || !accepted(wom_fill_page(page, WOM_PAGE_BYTES)))
         return 0;
-    stages->filled = wom_result(filled);
-    return word_0(page) == stages->filled;
+    stages->filled = word_0(page);
+    return wom_result(filled) == stages->filled;
 }
 
-static int take_second(struct stages *stages, const uint8_t *first_page)
+static int take_second(struct stages *stages, uint8_t *page)
 {
-    uint8_t page[WOM_PAGE_BYTES];
     uint64_t length;
 
-    memcpy(page, first_page, sizeof page);
-    if (!accepted(wom_rewrite(page, sizeof page, record, sizeof record)))
+    if (!accepted(wom_write_second(page, WOM_PAGE_BYTES, record,
+                                   sizeof record)))
         return 0;
     stages->second = word_0(page);
-    length = wom_read_second(page, sizeof page, stages->read,
+    length = wom_read_second(page, WOM_PAGE_BYTES, stages->read,
                              sizeof stages->read);
     return accepted(length) && wom_result(length) == sizeof record;
 }

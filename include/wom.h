@@ -3,8 +3,9 @@
  *
  * A cell is one bit of flash. An erased cell is 0, and programming only turns
  * 0 into 1. The first round writes 32-bit values as words whose set cells
- * stand apart; the second round fills such a word with further set cells and
- * then stores new bits between them, without an erase.
+ * stand apart. The second round goes without an erase, in two steps: such a
+ * word is filled with further set cells, ahead of time, and later new bits are
+ * stored between them.
  *
  * Word. A word is 46 cells, cell 0 to cell 45, held in the low 46 bits of a
  * uint64_t: cell 0 is the bit worth 2^45, cell 45 the bit worth 1. "Set" means
@@ -30,10 +31,10 @@
  *
  * Page. A page is 256 bytes:
  *
- *     byte  0         the state: 0x00 blank, 0x01 first round,
+ *     byte  0         the state: 0x00 blank, 0x01 first round, 0x03 filled,
  *                     0x07 second round; any other is unknown
  *     byte  1         the length of the second record in bytes: 0 in states
- *                     0x00 and 0x01, 0 to 126 in state 0x07
+ *                     0x00, 0x01 and 0x03, 0 to 126 in state 0x07
  *     byte  2         0
  *     bytes 3 to 255  2024 cells, the highest bit of a byte first: words 0 to
  *                     43, cell 0 first, with nothing between two words
@@ -45,16 +46,20 @@
  * First record. The first record is 176 bytes: each four bytes, highest first,
  * are the value of one word.
  *
- * Second record. The second record fits a first-round page when 8 times its
- * length in bytes is at most the page's capacity. Its bits, the highest bit of
- * each byte first, go into the data cells of the filled words, word 0 first,
- * lower cells first. The data cells that are left over are spare, and are 0.
+ * Reading back. The cells of a word that was filled are read from cell 0: a 0
+ * is passed over; a 1 is a separator, the next cell of the word is a data cell,
+ * and reading goes on after that. A word is well formed when, with these data
+ * cells put to 0, no cell of it could still be set by the fill.
  *
- * Reading back. The cells of a second-round word are read from cell 0: a 0 is
- * passed over; a 1 is a separator, the next cell of the word is a data cell,
- * and reading goes on after that. A second-round word is well formed when,
- * with these data cells put to 0, no cell of it could still be set by the
- * fill.
+ * Filled page. A filled page is in state 0x03, its bytes 1 and 2 are 0, and
+ * each of its 44 words is well formed with no data cell set. Every filled page
+ * is what the fill makes of some first-round page. Its capacity is the number
+ * of its data cells, which is the capacity of that first-round page.
+ *
+ * Second record. The second record fits a page when 8 times its length in
+ * bytes is at most the page's capacity. Its bits, the highest bit of each byte
+ * first, go into the data cells of the filled words, word 0 first, lower cells
+ * first. The data cells that are left over are spare, and are 0.
  *
  * Transfer file. The pages of one device, 0 to 64 of them, are carried away in
  * one file. It starts with the two bytes 0xF1 0xB0; then come fields, each a
@@ -88,8 +93,8 @@
 #include <stdint.h>
 
 /* 10000 times the major number, 100 times the minor one, and the patch. */
-#define WOM_VERSION        10100
-#define WOM_VERSION_STRING "1.1.0"
+#define WOM_VERSION        20000
+#define WOM_VERSION_STRING "2.0.0"
 
 #ifdef __cplusplus
 extern "C" {
@@ -136,7 +141,8 @@ static inline uint64_t wom_index(uint64_t answer)
 #define WOM_REFUSED_NOT_BLANK     4 /* a byte of the page is not 0 */
 #define WOM_REFUSED_STATE         5 /* the page is not in the state asked for */
 #define WOM_REFUSED_HEADER        6 /* byte 1 or byte 2 is out of its range */
-#define WOM_REFUSED_WORD          7 /* a word is not legal, or not well formed;
+#define WOM_REFUSED_WORD          7 /* a word is not legal, or not well formed,
+                                       or has a data cell set on a filled page;
                                        index: the lowest such word, 0 to 43 */
 #define WOM_REFUSED_RECORD_LENGTH 8 /* the second record does not fit;
                                        index: the page's capacity in bits */
@@ -316,6 +322,7 @@ uint64_t wom_word_capacity(uint64_t word);
 /* The state, byte 0 of a page. */
 #define WOM_STATE_BLANK  0x00
 #define WOM_STATE_FIRST  0x01 /* first round */
+#define WOM_STATE_FILLED 0x03 /* filled, ready for a second record */
 #define WOM_STATE_SECOND 0x07 /* second round */
 
 /*! wom_write_first() :
@@ -353,10 +360,32 @@ uint64_t wom_read_first(const uint8_t *page, size_t page_length,
                         uint8_t *out, size_t out_length);
 
 /*! wom_page_capacity() :
- *  Measures a first-round page: how many bits of a second record it takes.
+ *  Measures a first-round page or a filled page: how many bits of a second
+ *  record it takes. The fill does not change this number.
  *    page : the page.
  * @return : the page's capacity in bits, 660 to 1012; the longest record that
  *           fits has an eighth of that in bytes, rounded down;
+ *           or a refusal, the first of these that applies:
+ *             1 (WOM_REFUSED_PAGE_LENGTH) if the page is not 256 bytes,
+ *             5 (WOM_REFUSED_STATE)       if the state is neither 0x01 nor
+ *                                         0x03,
+ *             6 (WOM_REFUSED_HEADER)      if byte 1 or byte 2 is not 0,
+ *             7 (WOM_REFUSED_WORD)        in state 0x01, if a word is not
+ *                                         legal; in state 0x03, if a word is
+ *                                         not well formed or has a data cell
+ *                                         set; its index is the lowest such
+ *                                         word, 0 to 43.
+ *           The index is 0 but for 7. */
+WOM_MUST_USE
+uint64_t wom_page_capacity(const uint8_t *page, size_t page_length);
+
+/*! wom_fill_page() :
+ *  Fills a first-round page ahead of time, so that writing a second record
+ *  sets as few cells as may be.
+ *    page : the page. Afterwards it is a filled page: state 0x03, bytes 1 and 2
+ *           are 0, and all 44 words are filled. No cell of any byte is cleared.
+ *           Nothing of the first record can be relied on any more.
+ * @return : 0;
  *           or a refusal, the first of these that applies:
  *             1 (WOM_REFUSED_PAGE_LENGTH) if the page is not 256 bytes,
  *             5 (WOM_REFUSED_STATE)       if the state is not 0x01,
@@ -365,30 +394,32 @@ uint64_t wom_read_first(const uint8_t *page, size_t page_length,
  *                                         the lowest such word, 0 to 43.
  *           The index is 0 but for 7. */
 WOM_MUST_USE
-uint64_t wom_page_capacity(const uint8_t *page, size_t page_length);
+uint64_t wom_fill_page(uint8_t *page, size_t page_length);
 
-/*! wom_rewrite() :
- *  Writes a second record over a first-round page, without an erase.
+/*! wom_write_second() :
+ *  Writes a second record over a filled page.
  *    page   : the page. Afterwards it is a second-round page: state 0x07, byte
- *             1 is the record's length, byte 2 is 0, all 44 words are filled,
- *             the record's bits are in the data cells, and the spare data
- *             cells are 0. No cell of any byte is cleared. Nothing of the
- *             first record can be relied on any more.
+ *             1 is the record's length, byte 2 is 0, the record's bits are in
+ *             the data cells, and the spare data cells are 0. No cell of any
+ *             byte is cleared.
  *    record : the second record, of any length.
  * @return : 0;
  *           or a refusal, the first of these that applies:
  *             1 (WOM_REFUSED_PAGE_LENGTH)   if the page is not 256 bytes,
- *             5 (WOM_REFUSED_STATE)         if the state is not 0x01,
+ *             5 (WOM_REFUSED_STATE)         if the state is not 0x03,
  *             6 (WOM_REFUSED_HEADER)        if byte 1 or byte 2 is not 0,
- *             7 (WOM_REFUSED_WORD)          if a word is not legal; its index
- *                                           is the lowest such word, 0 to 43,
+ *             7 (WOM_REFUSED_WORD)          if a word is not well formed or has
+ *                                           a data cell set; its index is the
+ *                                           lowest such word, 0 to 43,
  *             8 (WOM_REFUSED_RECORD_LENGTH) if 8 times the record's length
  *                                           exceeds the page's capacity; its
- *                                           index is that capacity.
+ *                                           index is that capacity. The page
+ *                                           remains filled, for a shorter
+ *                                           record.
  *           The index is 0 but for 7 and 8. */
 WOM_MUST_USE
-uint64_t wom_rewrite(uint8_t *page, size_t page_length,
-                     const uint8_t *record, size_t record_length);
+uint64_t wom_write_second(uint8_t *page, size_t page_length,
+                          const uint8_t *record, size_t record_length);
 
 /*! wom_read_second() :
  *  Reads the second record of a second-round page, from the page alone.

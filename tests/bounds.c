@@ -1,11 +1,13 @@
 /*
  * The annex's bounds, as the library answers them: the capacity of the page of
  * 44 times the value 3889371024 and of the page of 176 zero bytes, and the
- * length of the longest record that each accepts. Prints these four numbers:
+ * length of the longest record that each accepts once it is filled. Prints
+ * these four numbers:
  *
  *     least greatest sure longest
  *
- * Exit status 1 when a first writing or a measurement is refused.
+ * Exit status 1 when a first writing, a fill or a measurement is refused, or a
+ * filled page has another capacity than the page had before.
  */
 #include <inttypes.h>
 #include <stdint.h>
@@ -37,20 +39,36 @@ static void make_page(uint8_t *page, uint32_t value)
     accepted(wom_write_first(page, WOM_PAGE_BYTES, data, sizeof data));
 }
 
-static int takes(const uint8_t *first_page, size_t length)
+/* Fills the page, and gives its capacity, which is that of before. */
+static uint64_t fill(uint8_t *page)
+{
+    uint64_t before = accepted(wom_page_capacity(page, WOM_PAGE_BYTES));
+    uint64_t capacity;
+
+    accepted(wom_fill_page(page, WOM_PAGE_BYTES));
+    capacity = accepted(wom_page_capacity(page, WOM_PAGE_BYTES));
+    if (capacity != before) {
+        fprintf(stderr, "bounds: the fill changed the capacity\n");
+        exit(1);
+    }
+    return capacity;
+}
+
+static int takes(const uint8_t *filled_page, size_t length)
 {
     static const uint8_t record[TOO_LONG] = {0};
     uint8_t page[WOM_PAGE_BYTES];
 
-    memcpy(page, first_page, sizeof page);
-    return wom_refusal(wom_rewrite(page, sizeof page, record, length)) == 0;
+    memcpy(page, filled_page, sizeof page);
+    return wom_refusal(wom_write_second(page, sizeof page, record, length)) ==
+           0;
 }
 
-static size_t longest(const uint8_t *first_page)
+static size_t longest(const uint8_t *filled_page)
 {
     size_t length = TOO_LONG;
 
-    while (length > 0 && !takes(first_page, length))
+    while (length > 0 && !takes(filled_page, length))
         length--;
     return length;
 }
@@ -59,12 +77,13 @@ int main(void)
 {
     uint8_t least[WOM_PAGE_BYTES];
     uint8_t greatest[WOM_PAGE_BYTES];
+    uint64_t least_bits, greatest_bits;
 
     make_page(least, 3889371024u);
     make_page(greatest, 0);
-    printf("%" PRIu64 " %" PRIu64 " %zu %zu\n",
-           accepted(wom_page_capacity(least, sizeof least)),
-           accepted(wom_page_capacity(greatest, sizeof greatest)),
+    least_bits = fill(least);
+    greatest_bits = fill(greatest);
+    printf("%" PRIu64 " %" PRIu64 " %zu %zu\n", least_bits, greatest_bits,
            longest(least), longest(greatest));
     return 0;
 }

@@ -4,6 +4,10 @@
  * one gained, and both readers are asked. Either both refuse the page, or one
  * reads the same record, or one reads another.
  *
+ * A filled page holds no record: a reader that accepts it reads another one.
+ * Where both refuse, a record of 82 bytes is written over the page. Either this
+ * is refused as well, or the record is read back from what it leaves.
+ *
  *     damage          prints the rows of the annex's table, then how many of
  *                     the other records a check value would have let pass
  *     damage SEED     the same for other records; 1 is the annex's
@@ -126,6 +130,25 @@ static int read_page(const uint8_t *page, struct record *out)
     return wom_refusal(answer) == 0;
 }
 
+/* The same of a filled page, which is written where both readers refuse it. */
+static int write_and_read_page(const uint8_t *filled_page,
+                               const struct record *record, struct record *out)
+{
+    uint8_t page[WOM_PAGE_BYTES];
+    uint64_t answer;
+
+    if (read_page(filled_page, out))
+        return 1;
+    memcpy(page, filled_page, sizeof page);
+    answer = wom_write_second(page, sizeof page, record->bytes, record->length);
+    if (wom_refusal(answer) != 0)
+        return 0;
+    answer = wom_read_second(page, sizeof page, out->bytes, sizeof out->bytes);
+    must_be_accepted(answer);
+    out->length = (size_t)wom_result(answer);
+    return 1;
+}
+
 /* ---- Counts ------------------------------------------------------------ */
 
 enum change { LOST, GAINED, CHANGES };
@@ -139,39 +162,47 @@ struct counts {
 
 struct row {
     const char *page;
+    int filled; /* true: the pages are filled, and are written */
     struct counts counts[CHANGES];
 };
 
 enum {
     FIRST,
+    FILLED,
     SECOND_0,
     SECOND_40,
     SECOND_82,
     SECOND_LONGEST,
     FIRST_HEADER,
+    FILLED_HEADER,
     SECOND_HEADER,
     ROWS
 };
 
 static struct row rows[ROWS] = {
     [FIRST] = {.page = "first round"},
+    [FILLED] = {.page = "filled, then 82 bytes", .filled = 1},
     [SECOND_0] = {.page = "second round, no byte"},
     [SECOND_40] = {.page = "second round, 40 bytes"},
     [SECOND_82] = {.page = "second round, 82 bytes"},
     [SECOND_LONGEST] = {.page = "second round, longest that fits"},
     [FIRST_HEADER] = {.page = "first round, header"},
+    [FILLED_HEADER] = {.page = "filled, header", .filled = 1},
     [SECOND_HEADER] = {.page = "second round, 82 bytes, header"},
 };
 
 static unsigned long others_passed; /* other records, check value right */
 
-static void count(struct counts *counts, const uint8_t *page,
+static void count(struct row *row, enum change change, const uint8_t *page,
                   const struct record *record)
 {
+    struct counts *counts = &row->counts[change];
     struct record read;
+    int accepted = row->filled ? write_and_read_page(page, record, &read)
+                               : read_page(page, &read);
 
     counts->tried++;
-    if (!read_page(page, &read)) {
+    if (!accepted) {
         counts->refused++;
     } else if (same_record(&read, record)) {
         counts->same++;
@@ -192,44 +223,56 @@ static void damage(struct row *row, uint8_t *page, const struct record *record,
         enum change change = page[at / 8] & bit ? LOST : GAINED;
 
         page[at / 8] ^= bit;
-        count(&row->counts[change], page, record);
+        count(row, change, page, record);
         page[at / 8] ^= bit;
     }
 }
 
-static void damage_second(struct row *row, struct row *header,
-                          const uint8_t *first_page, size_t length)
+static void damage_second(struct row *row, const uint8_t *filled_page,
+                          const struct record *record, int from, int to)
 {
     uint8_t page[WOM_PAGE_BYTES];
-    struct record record;
 
-    make_record(&record, length);
-    memcpy(page, first_page, sizeof page);
+    memcpy(page, filled_page, sizeof page);
     must_be_accepted(
-        wom_rewrite(page, sizeof page, record.bytes, record.length));
-    damage(row, page, &record, HEADER_BITS, PAGE_BITS);
-    if (header != NULL)
-        damage(header, page, &record, 0, HEADER_BITS);
+        wom_write_second(page, sizeof page, record->bytes, record->length));
+    damage(row, page, record, from, to);
 }
 
-static void damage_one_page(void)
+/* The page with its first record. The number of bits that it takes. */
+static uint64_t damage_first(uint8_t *page)
 {
-    uint8_t page[WOM_PAGE_BYTES] = {0};
     struct record record;
     uint64_t capacity;
 
     make_record(&record, WOM_FIRST_BYTES);
     must_be_accepted(
-        wom_write_first(page, sizeof page, record.bytes, record.length));
-    capacity = wom_page_capacity(page, sizeof page);
+        wom_write_first(page, WOM_PAGE_BYTES, record.bytes, record.length));
+    capacity = wom_page_capacity(page, WOM_PAGE_BYTES);
     must_be_accepted(capacity);
     damage(&rows[FIRST], page, &record, HEADER_BITS, PAGE_BITS);
     damage(&rows[FIRST_HEADER], page, &record, 0, HEADER_BITS);
-    damage_second(&rows[SECOND_0], NULL, page, 0);
-    damage_second(&rows[SECOND_40], NULL, page, 40);
-    damage_second(&rows[SECOND_82], &rows[SECOND_HEADER], page, 82);
-    damage_second(&rows[SECOND_LONGEST], NULL, page,
-                  (size_t)wom_result(capacity) / 8);
+    return wom_result(capacity);
+}
+
+static void damage_one_page(void)
+{
+    uint8_t page[WOM_PAGE_BYTES] = {0};
+    uint64_t capacity = damage_first(page);
+    struct record record;
+
+    must_be_accepted(wom_fill_page(page, sizeof page));
+    make_record(&record, 0);
+    damage_second(&rows[SECOND_0], page, &record, HEADER_BITS, PAGE_BITS);
+    make_record(&record, 40);
+    damage_second(&rows[SECOND_40], page, &record, HEADER_BITS, PAGE_BITS);
+    make_record(&record, 82);
+    damage(&rows[FILLED], page, &record, HEADER_BITS, PAGE_BITS);
+    damage(&rows[FILLED_HEADER], page, &record, 0, HEADER_BITS);
+    damage_second(&rows[SECOND_82], page, &record, HEADER_BITS, PAGE_BITS);
+    damage_second(&rows[SECOND_HEADER], page, &record, 0, HEADER_BITS);
+    make_record(&record, (size_t)capacity / 8);
+    damage_second(&rows[SECOND_LONGEST], page, &record, HEADER_BITS, PAGE_BITS);
 }
 
 /* ---- The table --------------------------------------------------------- */

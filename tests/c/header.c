@@ -1,8 +1,8 @@
 /*
- * Test of wom.h: its constants and functions, and nine of its ten entries, each
- * on document 01's values and on calls that it refuses by each of its numbers.
- * Every expectation is a literal. The tenth entry, wom_write_file, is tested by
- * file.c.
+ * Test of wom.h: its constants and functions, and ten of its eleven entries,
+ * each on document 01's values and on calls that it refuses by each of its
+ * numbers. Every expectation is a literal. The eleventh entry, wom_write_file,
+ * is tested by file.c.
  *
  *     header               all checks; exit status 0 when none is wrong, else 1
  *     header plant KIND    the same with one wrong expectation of that kind, so
@@ -61,13 +61,14 @@ static const struct {
     CONSTANT(WOM_SECOND_BYTES_SURE, 82),
     CONSTANT(WOM_STATE_BLANK, 0),
     CONSTANT(WOM_STATE_FIRST, 1),
+    CONSTANT(WOM_STATE_FILLED, 3),
     CONSTANT(WOM_STATE_SECOND, 7),
     CONSTANT(WOM_FILE_PAGES_MAX, 64),
     CONSTANT(WOM_FILE_BYTES(0), 12),
     CONSTANT(WOM_FILE_BYTES(1), 271),
     CONSTANT(WOM_FILE_BYTES(1 + 1), 530),
     CONSTANT(sizeof(uint8_t[WOM_FILE_BYTES(WOM_FILE_PAGES_MAX)]), 16588),
-    CONSTANT(WOM_VERSION, 10100),
+    CONSTANT(WOM_VERSION, 20000),
 };
 
 static void check_constants(void)
@@ -117,7 +118,7 @@ static void check_texts(void)
         check_text(wom_refusal_name(texts[i].number), texts[i].expected);
     }
     in_case("WOM_VERSION_STRING", WOM_VERSION);
-    check_text(WOM_VERSION_STRING, "1.1.0");
+    check_text(WOM_VERSION_STRING, "2.0.0");
 }
 
 static const struct {
@@ -257,10 +258,13 @@ struct page {
 
 static const struct page blank = {{0}, {0}, {0}};
 
-/* 176 zero bytes, and over them: no record, one zero byte, the byte 10010110,
- * 126 bytes of ones. Where 23 ones are written to a word, all its 46 cells are
- * set. */
+/* 176 zero bytes, filled, and over them: no record, one zero byte, the byte
+ * 10010110, 126 bytes of ones. Where 23 ones are written to a word, all its 46
+ * cells are set. */
 static const struct page zeros_first = {{0x01}, {0}, {0}};
+static const struct page zeros_filled = {
+    {0x03, 0, 0, 0xaa, 0xaa}, {TIMES_23(0xaa)}, {0xaa, 0xaa},
+};
 static const struct page zeros_none = {
     {0x07, 0, 0, 0xaa, 0xaa}, {TIMES_23(0xaa)}, {0xaa, 0xaa},
 };
@@ -274,13 +278,18 @@ static const struct page zeros_ones = {
     {0x07, 126, 0, 0xff, 0xff}, {TIMES_23(0xff)}, {0xff, 0xaa},
 };
 
-/* 44 times 3889371024, and over it 82 bytes of ones: four data cells are left.
- * A separator in cell 45 stands right before the next word's cell 0. */
+/* 44 times 3889371024, filled, which sets no cell of a word, and over it 82
+ * bytes of ones: four data cells are left. A separator in cell 45 stands right
+ * before the next word's cell 0. */
+#define LEAST_WORDS \
+    0x92, 0x49, 0x24, 0x92, 0x49, 0x26, 0x49, 0x24, 0x92, 0x49, 0x24, 0x99, \
+    0x24, 0x92, 0x49, 0x24, 0x92, 0x64, 0x92, 0x49, 0x24, 0x92, 0x49
+
 static const struct page least_first = {
-    {0x01, 0, 0, 0x92, 0x49},
-    {0x92, 0x49, 0x24, 0x92, 0x49, 0x26, 0x49, 0x24, 0x92, 0x49, 0x24, 0x99,
-     0x24, 0x92, 0x49, 0x24, 0x92, 0x64, 0x92, 0x49, 0x24, 0x92, 0x49},
-    {0x92, 0x49},
+    {0x01, 0, 0, 0x92, 0x49}, {LEAST_WORDS}, {0x92, 0x49},
+};
+static const struct page least_filled = {
+    {0x03, 0, 0, 0x92, 0x49}, {LEAST_WORDS}, {0x92, 0x49},
 };
 static const struct page least_ones = {
     {0x07, 82, 0, 0xdb, 0x6d},
@@ -289,8 +298,9 @@ static const struct page least_ones = {
     {0xd2, 0x49},
 };
 
-/* 1, 77, 243 and 3889371024, and over them: no record, one zero byte. */
-#define MIXED_FILLED \
+/* 1, 77, 243 and 3889371024, filled, and over them: no record, one zero
+ * byte. */
+#define MIXED_WORDS_FILLED \
     0xaa, 0xaa, 0xaa, 0xaa, 0xaa, 0xa6, 0xaa, 0xaa, 0xaa, 0xaa, 0x95, 0x5a, \
     0xaa, 0xaa, 0xaa, 0xaa, 0xa4, 0xa4, 0x92, 0x49, 0x24, 0x92, 0x49
 
@@ -300,11 +310,14 @@ static const struct page mixed_first = {
      0x00, 0x00, 0x00, 0x02, 0x04, 0xa4, 0x92, 0x49, 0x24, 0x92, 0x49},
     {0x92, 0x49},
 };
+static const struct page mixed_filled = {
+    {0x03, 0, 0, 0xaa, 0xaa}, {MIXED_WORDS_FILLED}, {0x92, 0x49},
+};
 static const struct page mixed_none = {
-    {0x07, 0, 0, 0xaa, 0xaa}, {MIXED_FILLED}, {0x92, 0x49},
+    {0x07, 0, 0, 0xaa, 0xaa}, {MIXED_WORDS_FILLED}, {0x92, 0x49},
 };
 static const struct page mixed_zero = {
-    {0x07, 1, 0, 0xaa, 0xaa}, {MIXED_FILLED}, {0x92, 0x49},
+    {0x07, 1, 0, 0xaa, 0xaa}, {MIXED_WORDS_FILLED}, {0x92, 0x49},
 };
 
 /* Sixteen bytes, which repeat themselves. */
@@ -344,15 +357,22 @@ static void lay_record(uint8_t bytes[ROOM], const uint8_t sixteen[16],
 
 /* ---- Page entries ------------------------------------------------------ */
 
-enum entry { WRITE_FIRST, READ_FIRST, PAGE_CAPACITY, REWRITE, READ_SECOND };
-
-static const char *const names[] = {
-    "wom_write_first", "wom_read_first", "wom_page_capacity", "wom_rewrite",
-    "wom_read_second",
+enum entry {
+    WRITE_FIRST,
+    READ_FIRST,
+    PAGE_CAPACITY,
+    FILL_PAGE,
+    WRITE_SECOND,
+    READ_SECOND
 };
 
-/* The other buffer is the data, the record or the output; page capacity has
- * none. A buffer of length 0 is given as null. */
+static const char *const names[] = {
+    "wom_write_first", "wom_read_first", "wom_page_capacity", "wom_fill_page",
+    "wom_write_second", "wom_read_second",
+};
+
+/* The other buffer is the data, the record or the output; page capacity and
+ * fill page have none. A buffer of length 0 is given as null. */
 static uint64_t call(enum entry entry, uint8_t *page, size_t page_length,
                      uint8_t *other, size_t other_length)
 {
@@ -365,8 +385,10 @@ static uint64_t call(enum entry entry, uint8_t *page, size_t page_length,
         return wom_read_first(page, page_length, other, other_length);
     case PAGE_CAPACITY:
         return wom_page_capacity(page, page_length);
-    case REWRITE:
-        return wom_rewrite(page, page_length, other, other_length);
+    case FILL_PAGE:
+        return wom_fill_page(page, page_length);
+    case WRITE_SECOND:
+        return wom_write_second(page, page_length, other, other_length);
     default:
         return wom_read_second(page, page_length, other, other_length);
     }
@@ -397,14 +419,21 @@ static const struct accepted {
     {PAGE_CAPACITY, &zeros_first, nines, 0, 1012, &zeros_first, zeros, 0},
     {PAGE_CAPACITY, &least_first, nines, 0, 660, &least_first, zeros, 0},
     {PAGE_CAPACITY, &mixed_first, nines, 0, 891, &mixed_first, zeros, 0},
+    {PAGE_CAPACITY, &zeros_filled, nines, 0, 1012, &zeros_filled, zeros, 0},
+    {PAGE_CAPACITY, &least_filled, nines, 0, 660, &least_filled, zeros, 0},
+    {PAGE_CAPACITY, &mixed_filled, nines, 0, 891, &mixed_filled, zeros, 0},
 
-    {REWRITE, &zeros_first, zeros, 0, 0, &zeros_none, zeros, 0},
-    {REWRITE, &zeros_first, zeros, 1, 0, &zeros_zero, zeros, 0},
-    {REWRITE, &zeros_first, byte, 1, 0, &zeros_byte, zeros, 0},
-    {REWRITE, &zeros_first, ones, 126, 0, &zeros_ones, zeros, 0},
-    {REWRITE, &least_first, ones, 82, 0, &least_ones, zeros, 0},
-    {REWRITE, &mixed_first, zeros, 0, 0, &mixed_none, zeros, 0},
-    {REWRITE, &mixed_first, zeros, 1, 0, &mixed_zero, zeros, 0},
+    {FILL_PAGE, &zeros_first, nines, 0, 0, &zeros_filled, zeros, 0},
+    {FILL_PAGE, &least_first, nines, 0, 0, &least_filled, zeros, 0},
+    {FILL_PAGE, &mixed_first, nines, 0, 0, &mixed_filled, zeros, 0},
+
+    {WRITE_SECOND, &zeros_filled, zeros, 0, 0, &zeros_none, zeros, 0},
+    {WRITE_SECOND, &zeros_filled, zeros, 1, 0, &zeros_zero, zeros, 0},
+    {WRITE_SECOND, &zeros_filled, byte, 1, 0, &zeros_byte, zeros, 0},
+    {WRITE_SECOND, &zeros_filled, ones, 126, 0, &zeros_ones, zeros, 0},
+    {WRITE_SECOND, &least_filled, ones, 82, 0, &least_ones, zeros, 0},
+    {WRITE_SECOND, &mixed_filled, zeros, 0, 0, &mixed_none, zeros, 0},
+    {WRITE_SECOND, &mixed_filled, zeros, 1, 0, &mixed_zero, zeros, 0},
 
     {READ_SECOND, &zeros_none, nines, 0, 0, &zeros_none, zeros, 0},
     {READ_SECOND, &zeros_zero, nines, 1, 1, &zeros_zero, zeros, 1},
@@ -469,6 +498,7 @@ static const struct refused {
     {READ_FIRST, &zeros_first, 0, 0, 0x01, 0, 1, 0},
     {READ_FIRST, &zeros_first, 255, 0, 0x01, 176, 1, 0},
     {READ_FIRST, &zeros_first, 256, 0, 0x07, 176, 5, 0},
+    {READ_FIRST, &zeros_filled, 256, 0, 0x03, 176, 5, 0},
     {READ_FIRST, &zeros_first, 256, 1, 0x01, 176, 6, 0},
     {READ_FIRST, &zeros_first, 256, 2, 0x80, 176, 6, 0},
     {READ_FIRST, &zeros_first, 256, 3, 0xc0, 176, 7, 0}, /* cells 0 and 1 */
@@ -481,23 +511,67 @@ static const struct refused {
     {PAGE_CAPACITY, &zeros_first, 0, 0, 0x01, 0, 1, 0},
     {PAGE_CAPACITY, &zeros_first, 257, 0, 0x01, 0, 1, 0},
     {PAGE_CAPACITY, &zeros_first, 256, 0, 0x00, 0, 5, 0},
+    {PAGE_CAPACITY, &zeros_first, 256, 0, 0x02, 0, 5, 0},
+    {PAGE_CAPACITY, &zeros_none, 256, 0, 0x07, 0, 5, 0},
     {PAGE_CAPACITY, &zeros_first, 256, 1, 0x80, 0, 6, 0},
+    {PAGE_CAPACITY, &zeros_first, 256, 2, 0x01, 0, 6, 0},
     {PAGE_CAPACITY, &zeros_first, 256, 8, 0x03, 0, 7, 1},
+    {PAGE_CAPACITY, &zeros_filled, 256, 0, 0x01, 0, 7, 0}, /* the sum */
+    {PAGE_CAPACITY, &zeros_filled, 0, 0, 0x03, 0, 1, 0},
+    {PAGE_CAPACITY, &zeros_filled, 255, 0, 0x03, 0, 1, 0},
+    {PAGE_CAPACITY, &zeros_filled, 256, 1, 0x01, 0, 6, 0},
+    {PAGE_CAPACITY, &zeros_filled, 256, 2, 0x80, 0, 6, 0},
+    {PAGE_CAPACITY, &zeros_ones, 256, 0, 0x03, 0, 6, 0},
+    {PAGE_CAPACITY, &zeros_first, 256, 0, 0x03, 0, 7, 0}, /* room everywhere */
+    {PAGE_CAPACITY, &zeros_filled, 256, 3, 0x2a, 0, 7, 0}, /* at cell 0 */
+    {PAGE_CAPACITY, &zeros_filled, 256, 8, 0xab, 0, 7, 1}, /* a data cell */
+    {PAGE_CAPACITY, &zeros_filled, 256, 255, 0xab, 0, 7, 43}, /* a data cell */
 
-    {REWRITE, &zeros_first, 0, 0, 0x01, 1, 1, 0},
-    {REWRITE, &zeros_first, 0, 0, 0x01, 0, 1, 0},
-    {REWRITE, &zeros_first, 255, 0, 0x01, 1, 1, 0},
-    {REWRITE, &zeros_first, 256, 0, 0x02, 1, 5, 0},
-    {REWRITE, &zeros_first, 256, 2, 0x01, 1, 6, 0},
-    {REWRITE, &zeros_first, 256, 255, 0x03, 1, 7, 43},
-    {REWRITE, &zeros_first, 256, 0, 0x01, 127, 8, 1012},
-    {REWRITE, &least_first, 256, 0, 0x01, 83, 8, 660},
-    {REWRITE, &mixed_first, 256, 0, 0x01, 112, 8, 891},
+    {FILL_PAGE, &zeros_first, 0, 0, 0x01, 0, 1, 0},
+    {FILL_PAGE, &zeros_first, 255, 0, 0x01, 0, 1, 0},
+    {FILL_PAGE, &zeros_first, 257, 0, 0x01, 0, 1, 0},
+    {FILL_PAGE, &zeros_first, 256, 0, 0x00, 0, 5, 0},
+    {FILL_PAGE, &zeros_first, 256, 0, 0x03, 0, 5, 0},
+    {FILL_PAGE, &zeros_first, 256, 0, 0x07, 0, 5, 0},
+    {FILL_PAGE, &zeros_first, 256, 0, 0x81, 0, 5, 0},
+    {FILL_PAGE, &zeros_filled, 256, 0, 0x03, 0, 5, 0},
+    {FILL_PAGE, &least_filled, 256, 0, 0x03, 0, 5, 0},
+    {FILL_PAGE, &zeros_first, 256, 1, 0x01, 0, 6, 0},
+    {FILL_PAGE, &zeros_first, 256, 2, 0x80, 0, 6, 0},
+    {FILL_PAGE, &zeros_first, 256, 3, 0xc0, 0, 7, 0}, /* cells 0 and 1 */
+    {FILL_PAGE, &zeros_first, 256, 8, 0x03, 0, 7, 1}, /* cells 0 and 1 */
+    {FILL_PAGE, &zeros_first, 256, 255, 0x03, 0, 7, 43}, /* 44 and 45 */
+    {FILL_PAGE, &zeros_filled, 256, 0, 0x01, 0, 7, 0}, /* every even cell */
+
+    {WRITE_SECOND, &zeros_filled, 0, 0, 0x03, 1, 1, 0},
+    {WRITE_SECOND, &zeros_filled, 0, 0, 0x03, 0, 1, 0},
+    {WRITE_SECOND, &zeros_filled, 255, 0, 0x03, 1, 1, 0},
+    {WRITE_SECOND, &zeros_filled, 257, 0, 0x03, 127, 1, 0},
+    {WRITE_SECOND, &zeros_filled, 256, 0, 0x00, 1, 5, 0},
+    {WRITE_SECOND, &zeros_filled, 256, 0, 0x01, 1, 5, 0},
+    {WRITE_SECOND, &zeros_filled, 256, 0, 0x02, 1, 5, 0},
+    {WRITE_SECOND, &zeros_filled, 256, 0, 0x07, 127, 5, 0},
+    {WRITE_SECOND, &mixed_first, 256, 0, 0x01, 1, 5, 0},
+    {WRITE_SECOND, &zeros_ones, 256, 0, 0x07, 1, 5, 0},
+    {WRITE_SECOND, &zeros_filled, 256, 1, 0x01, 1, 6, 0},
+    {WRITE_SECOND, &zeros_filled, 256, 2, 0x01, 127, 6, 0},
+    {WRITE_SECOND, &zeros_ones, 256, 0, 0x03, 1, 6, 0},
+    {WRITE_SECOND, &mixed_first, 256, 0, 0x03, 1, 7, 0}, /* not filled */
+    {WRITE_SECOND, &zeros_filled, 256, 3, 0x2a, 1, 7, 0}, /* room at cell 0 */
+    {WRITE_SECOND, &zeros_filled, 256, 3, 0xea, 1, 7, 0}, /* a data cell */
+    {WRITE_SECOND, &least_filled, 256, 3, 0xb2, 1, 7, 0}, /* cell 3 is one */
+    {WRITE_SECOND, &zeros_filled, 256, 8, 0xa8, 1, 7, 1}, /* room at cell 0 */
+    {WRITE_SECOND, &zeros_filled, 256, 255, 0xa8, 0, 7, 43}, /* at cell 44 */
+    {WRITE_SECOND, &zeros_filled, 256, 255, 0xab, 127, 7, 43}, /* a data cell */
+    {WRITE_SECOND, &zeros_filled, 256, 0, 0x03, 127, 8, 1012},
+    {WRITE_SECOND, &least_filled, 256, 0, 0x03, 83, 8, 660},
+    {WRITE_SECOND, &mixed_filled, 256, 0, 0x03, 112, 8, 891},
 
     {READ_SECOND, &zeros_ones, 0, 0, 0x07, 126, 1, 0},
     {READ_SECOND, &zeros_ones, 0, 0, 0x07, 0, 1, 0},
     {READ_SECOND, &zeros_ones, 257, 0, 0x07, 126, 1, 0},
     {READ_SECOND, &zeros_ones, 256, 0, 0x01, 126, 5, 0},
+    {READ_SECOND, &zeros_filled, 256, 0, 0x03, 126, 5, 0},
     {READ_SECOND, &zeros_ones, 256, 1, 127, 127, 6, 0},
     {READ_SECOND, &zeros_ones, 256, 2, 0x01, 126, 6, 0},
     {READ_SECOND, &zeros_none, 256, 3, 0x00, 126, 7, 0}, /* room at cell 0 */

@@ -1,6 +1,7 @@
--- The customer's three demands, clause by clause, in document 01's terms. proofs/Demands.antt proves each. The contracts in src/ of word, page,
--- second and wom tie the running code to `decodeAnswer`, `writeFirstAnswer`, `writeFirstLeaves` and the others of specs/Answer.antt in word,
--- page and second: what each operation answers, and what each buffer holds afterwards, for every value, word, page, record and output.
+-- The customer's three demands, clause by clause, in the terms of document 01 and of document 02, Change 2. proofs/Demands.antt proves each.
+-- The contracts in src/ of word, page, filled, second and wom tie the running code to `decodeAnswer`, `writeFirstAnswer`, `writeFirstLeaves`
+-- and the others of specs/Answer.antt in word, page, filled and second: what each operation answers, and what each buffer holds afterwards,
+-- for every value, word, page, record and output.
 --
 -- How to read a clause:
 --   (w : ℕ) →              for every word w, held as a number: its cells are `cells 46 w`, cell 0 first
@@ -25,15 +26,16 @@ use Rattle.cells.specs.Cells.{number, cells, bit, someSet}
 use Rattle.cells.specs.Bytes.{bits, Bytes}
 use Rattle.answer.specs.Answer.{Answer, result, refusal, RefusesBy}
 use Rattle.window.specs.Words.{wordAt, pageWords}
-use Rattle.word.specs.Word.{sum, legalWord, zeckendorf}
-use Rattle.word.specs.Fill.{fill, setBeforeLast, wellFormed}
+use Rattle.word.specs.Word.{sum, legal, legalWord, zeckendorf}
+use Rattle.word.specs.Fill.{fill, setBeforeLast, wellFormed, isFilled}
 use Rattle.word.specs.Answer.{encodeAnswer, decodeAnswer, fillAnswer, capacityAnswer}
 use Rattle.word.specs.Claims.{WordRefusals}
-use Rattle.rows.specs.Page.{page256, state, byte1, byte2, blankOf, FirstRoundOf, SecondRoundOf, FitsOf, outcomeOf, fillAll, capacityAll, secondBitsOf}
-use Rattle.page.specs.Terms.{SizedOf, AllPassOf, LowestBadOf, FirstRefusalsOf}
-use Rattle.page.specs.Answer.{writeFirstAnswer, writeFirstLeaves, readFirstAnswer, readFirstLeaves, pageCapacityAnswer}
+use Rattle.rows.specs.Page.{page256, state, byte1, byte2, blankOf, FirstRoundOf, FilledOf, SecondRoundOf, FitsOf, outcomeOf, fillAll, capacityAll, secondBitsOf}
+use Rattle.page.specs.Terms.{SizedOf, HeaderOf, AllPassOf, LowestBadOf, RefusalsOf}
+use Rattle.page.specs.Answer.{writeFirstAnswer, writeFirstLeaves, readFirstAnswer, readFirstLeaves}
+use Rattle.filled.specs.Answer.{fillPageAnswer, fillPageLeaves, pageCapacityAnswer}
 use Rattle.second.specs.Terms.{SecondHeaderOf}
-use Rattle.second.specs.Answer.{rewriteAnswer, rewriteLeaves, readSecondAnswer, readSecondLeaves}
+use Rattle.second.specs.Answer.{writeSecondAnswer, writeSecondLeaves, readSecondAnswer, readSecondLeaves}
 
 -- ---- document 01's page: the shape of 256 bytes, 44 words, a first record of 176 bytes and a second of at most 126
 
@@ -42,6 +44,9 @@ blank = blankOf (page256 .size)
 
 abbrev pub FirstRound : List ℕ → Type 0
 FirstRound P = FirstRoundOf page256 P
+
+abbrev pub Filled : List ℕ → Type 0
+Filled P = FilledOf page256 P
 
 abbrev pub SecondRound : List ℕ → Type 0
 SecondRound P = SecondRoundOf page256 P
@@ -54,6 +59,12 @@ outcome P R = outcomeOf page256 P R
 
 abbrev pub Sized : List ℕ → Type 0
 Sized P = SizedOf page256 P
+
+abbrev pub FirstHeader : List ℕ → Type 0
+FirstHeader P = HeaderOf 1 page256 P
+
+abbrev pub FilledHeader : List ℕ → Type 0
+FilledHeader P = HeaderOf 3 page256 P
 
 abbrev pub SecondHeader : List ℕ → Type 0
 SecondHeader P = SecondHeaderOf page256 P
@@ -68,7 +79,10 @@ abbrev pub secondBits : List ℕ → List Bool
 secondBits P = secondBitsOf page256 P
 
 abbrev pub FirstRefusals : List ℕ → Answer → Type 0
-FirstRefusals P a = FirstRefusalsOf page256 P a
+FirstRefusals P a = RefusalsOf 1 legal page256 P a
+
+abbrev pub FilledRefusals : List ℕ → Answer → Type 0
+FilledRefusals P a = RefusalsOf 3 isFilled page256 P a
 
 -- the number of data cells of filled words. "A separator is a set cell of a filled word. A data cell is the cell right after a separator in
 -- the same word": a word has one for each set cell but one in cell 45
@@ -79,6 +93,10 @@ dataCellsAll (w ∷ ws) = setBeforeLast w + dataCellsAll ws
 -- the number of a page's data cells after the fill: of the cells right after a separator in the same word
 abbrev pub dataCells : List ℕ → ℕ
 dataCells P = dataCellsAll (fillAll (pageWords P (page256 .words)))
+
+-- the number of a filled page's data cells: its words are filled already
+abbrev pub filledCells : List ℕ → ℕ
+filledCells P = dataCellsAll (pageWords P (page256 .words))
 
 -- the value of word i of a first record: four bytes, highest first
 abbrev pub valueAt : List ℕ → ℕ → ℕ
@@ -101,8 +119,12 @@ pub record Demand1 : Type 0 where
   -- The page operations
   pub write-first : (P D : List ℕ) (v : ℕ) → (writeFirstAnswer P D ≡ result v) ↔ ((P ≡ blank) × (length D ≡ 176) × (v ≡ 0))
   pub read-first : (P out : List ℕ) (v : ℕ) → Bytes P → (readFirstAnswer P out ≡ result v) ↔ (FirstRound P × (176 ≤ length out) × (v ≡ 0))
-  pub page-capacity : (P : List ℕ) (c : ℕ) → Bytes P → (pageCapacityAnswer P ≡ result c) ↔ (FirstRound P × (c ≡ dataCells P))
-  pub rewrite : (P R : List ℕ) (v : ℕ) → Bytes P → Bytes R → (rewriteAnswer P R ≡ result v) ↔ (FirstRound P × Fits R P × (v ≡ 0))
+  -- "Page capacity serves both states"
+  pub page-capacity : (P : List ℕ) (c : ℕ) → Bytes P
+      → (pageCapacityAnswer P ≡ result c) ↔ ((FirstRound P × (c ≡ dataCells P)) ⊎ (Filled P × (c ≡ filledCells P)))
+  pub fill-page : (P : List ℕ) (v : ℕ) → Bytes P → (fillPageAnswer P ≡ result v) ↔ (FirstRound P × (v ≡ 0))
+  pub write-second : (P R : List ℕ) (v : ℕ) → Bytes P
+      → (writeSecondAnswer P R ≡ result v) ↔ (Filled P × (8 * length R ≤ filledCells P) × (v ≡ 0))
   pub read-second : (P out : List ℕ) (n : ℕ) → Bytes P → (readSecondAnswer P out ≡ result n) ↔ (SecondRound P × (n ≡ byte1 P) × (n ≤ length out))
   -- "Everything else it refuses by the number in the document": each refusal "is returned just when its condition holds and no earlier one
   -- does".
@@ -118,11 +140,20 @@ pub record Demand1 : Type 0 where
   -- Read first: 1, 5, 6, 7, then "3 if the output is shorter than 176"
   pub read-first-1567 : (P out : List ℕ) → FirstRefusals P (readFirstAnswer P out)
   pub read-first-3 : (P out : List ℕ) (i : ℕ) → Bytes P → (readFirstAnswer P out ≡ refusal 3 i) ↔ (FirstRound P × (length out < 176) × (i ≡ 0))
-  -- Page capacity: "1, 5, 6, 7 as in read first"
-  pub page-capacity-1567 : (P : List ℕ) → FirstRefusals P (pageCapacityAnswer P)
-  -- Rewrite: "1, 5, 6, 7 as in read first, then 8 with the page's capacity if 8 times the record's length exceeds it"
-  pub rewrite-1567 : (P R : List ℕ) → FirstRefusals P (rewriteAnswer P R)
-  pub rewrite-8 : (P R : List ℕ) (c : ℕ) → Bytes P → (rewriteAnswer P R ≡ refusal 8 c) ↔ (FirstRound P × (c ≡ dataCells P) × (c < 8 * length R))
+  -- Page capacity: "1, 5, 6, 7 as in read first", and "on a state 03 page it refuses 6 and 7 as writing does, and 5 is for any other state"
+  pub page-capacity-1 : (P : List ℕ) (i : ℕ) → (pageCapacityAnswer P ≡ refusal 1 i) ↔ (¬ Sized P × (i ≡ 0))
+  pub page-capacity-5 : (P : List ℕ) (i : ℕ) → (pageCapacityAnswer P ≡ refusal 5 i) ↔ (Sized P × ¬ (state P ≡ 1) × ¬ (state P ≡ 3) × (i ≡ 0))
+  pub page-capacity-6 : (P : List ℕ) (i : ℕ) → (pageCapacityAnswer P ≡ refusal 6 i)
+      ↔ (Sized P × ((state P ≡ 1) ⊎ (state P ≡ 3)) × (¬ (byte1 P ≡ 0) ⊎ ¬ (byte2 P ≡ 0)) × (i ≡ 0))
+  pub page-capacity-7 : (P : List ℕ) (i : ℕ) → (pageCapacityAnswer P ≡ refusal 7 i)
+      ↔ ((FirstHeader P × LowestBad legal P i) ⊎ (FilledHeader P × LowestBad isFilled P i))
+  -- Fill page: "1, 5, 6, 7 as read first does"
+  pub fill-page-1567 : (P : List ℕ) → FirstRefusals P (fillPageAnswer P)
+  -- Write second: "1, 5 for a state other than 03, 6, 7 for a word that is not well formed or has a data cell set, then 8", with the page's
+  -- capacity, "if 8 times the record's length exceeds it"
+  pub write-second-1567 : (P R : List ℕ) → FilledRefusals P (writeSecondAnswer P R)
+  pub write-second-8 : (P R : List ℕ) (c : ℕ) → Bytes P
+      → (writeSecondAnswer P R ≡ refusal 8 c) ↔ (Filled P × (c ≡ filledCells P) × (c < 8 * length R))
   -- Read second: "1, then 5 if the state is not 07, 6 if byte 1 exceeds 126 or byte 2 is not 0, 7 with the lowest index of a word not well
   -- formed, 9 if 8 times byte 1 exceeds the number of data cells or a spare data cell is 1, 3 if the output is shorter than the record"
   pub read-second-1 : (P out : List ℕ) (i : ℕ) → (readSecondAnswer P out ≡ refusal 1 i) ↔ (¬ Sized P × (i ≡ 0))
@@ -143,12 +174,14 @@ pub record Demand1 : Type 0 where
   pub write-first-by : (P D : List ℕ) → RefusesBy (1 ∷ 2 ∷ 4 ∷ []) (writeFirstAnswer P D)
   pub read-first-by : (P out : List ℕ) → RefusesBy (1 ∷ 5 ∷ 6 ∷ 7 ∷ 3 ∷ []) (readFirstAnswer P out)
   pub page-capacity-by : (P : List ℕ) → RefusesBy (1 ∷ 5 ∷ 6 ∷ 7 ∷ []) (pageCapacityAnswer P)
-  pub rewrite-by : (P R : List ℕ) → RefusesBy (1 ∷ 5 ∷ 6 ∷ 7 ∷ 8 ∷ []) (rewriteAnswer P R)
+  pub fill-page-by : (P : List ℕ) → RefusesBy (1 ∷ 5 ∷ 6 ∷ 7 ∷ []) (fillPageAnswer P)
+  pub write-second-by : (P R : List ℕ) → RefusesBy (1 ∷ 5 ∷ 6 ∷ 7 ∷ 8 ∷ []) (writeSecondAnswer P R)
   pub read-second-by : (P out : List ℕ) → RefusesBy (1 ∷ 5 ∷ 6 ∷ 7 ∷ 9 ∷ 3 ∷ []) (readSecondAnswer P out)
   -- "a refused call writes no byte of any buffer"
   pub write-first-refused : (P D : List ℕ) (n i : ℕ) → writeFirstAnswer P D ≡ refusal n i → writeFirstLeaves P D ≡ P
   pub read-first-refused : (P out : List ℕ) (n i : ℕ) → readFirstAnswer P out ≡ refusal n i → readFirstLeaves P out ≡ out
-  pub rewrite-refused : (P R : List ℕ) (n i : ℕ) → rewriteAnswer P R ≡ refusal n i → rewriteLeaves P R ≡ P
+  pub fill-page-refused : (P : List ℕ) (n i : ℕ) → fillPageAnswer P ≡ refusal n i → fillPageLeaves P ≡ P
+  pub write-second-refused : (P R : List ℕ) (n i : ℕ) → writeSecondAnswer P R ≡ refusal n i → writeSecondLeaves P R ≡ P
   pub read-second-refused : (P out : List ℕ) (n i : ℕ) → readSecondAnswer P out ≡ refusal n i → readSecondLeaves P out ≡ out
 
 -- Demand 2. First-round pages are the Zeckendorf sums of the 32-bit words, 46 cells a word, as the two published papers define them,
@@ -166,17 +199,33 @@ pub record Demand2 : Type 0 where
   pub written : (D : List ℕ) → length D ≡ 176 → writeFirstAnswer blank D ≡ result 0
   pub read-back : (D out : List ℕ) → Bytes D → length D ≡ 176 → 176 ≤ length out
       → (readFirstAnswer (writeFirstLeaves blank D) out ≡ result 0) × (readFirstLeaves (writeFirstLeaves blank D) out ≡ D ++ drop 176 out)
-  -- "a page is accepted as twice written exactly when ..."
+  -- "a page is accepted as twice written exactly when filling some first-round page and writing some record over it gives those 256 bytes":
+  -- what the two operations leave, one after the other
   pub twice-written : (page out : List ℕ) → Bytes page → byte1 page ≤ length out
-      → ((n : ℕ) × (readSecondAnswer page out ≡ result n)) ↔ ((P : List ℕ) × (R : List ℕ) × FirstRound P × Fits R P × (outcome P R ≡ page))
+      → ((n : ℕ) × (readSecondAnswer page out ≡ result n))
+      ↔ ((P : List ℕ) × (R : List ℕ) × FirstRound P × Fits R P × (writeSecondLeaves (fillPageLeaves P) R ≡ page))
+  -- the filled pages are exactly what filling leaves of first-round pages
+  pub filled : (F : List ℕ) → Filled F ↔ ((P : List ℕ) × FirstRound P × (fillPageLeaves P ≡ F))
 
--- Demand 3. For all first-round pages P and Q, every record R that fits P and every record S that fits Q: ...
+-- Demand 3, which "speaks of the pair, as demand 2 does". For all first-round pages P and Q, every record R that fits P and every record S
+-- that fits Q: ...
 pub record Demand3 : Type 0 where
-  -- "writing R over P is accepted, leaves exactly the outcome that the rules define"
-  pub accepted : (P R : List ℕ) → FirstRound P → Fits R P → (rewriteAnswer P R ≡ result 0) × (rewriteLeaves P R ≡ outcome P R)
-  -- "and clears no cell in any byte of P": a bit that is set in a byte of P is set in that byte of the outcome, which has 256 bytes
+  -- filling P is accepted, and leaves a filled page
+  pub fill-accepted : (P : List ℕ) → FirstRound P → (fillPageAnswer P ≡ result 0) × Filled (fillPageLeaves P)
+  -- "writing R over P is accepted, leaves exactly the outcome that the rules define": writing over what filling leaves
+  pub accepted : (P R : List ℕ) → FirstRound P → Fits R P
+      → (writeSecondAnswer (fillPageLeaves P) R ≡ result 0) × (writeSecondLeaves (fillPageLeaves P) R ≡ outcome P R)
+  -- "and clears no cell in any byte of P": a bit that is set in a byte of P is set in that byte of the filled page, one that is set there is
+  -- set in the outcome, and so from P to the outcome; each has 256 bytes
+  pub fill-clears-none : (P : List ℕ) → FirstRound P → (i b : ℕ) → T (bit (getD P i 0) b) → T (bit (getD (fillPageLeaves P) i 0) b)
+  pub writing-clears-none : (P R : List ℕ) → FirstRound P → Fits R P
+      → (i b : ℕ) → T (bit (getD (fillPageLeaves P) i 0) b) → T (bit (getD (outcome P R) i 0) b)
   pub no-cell-cleared : (P R : List ℕ) → FirstRound P → Fits R P → (i b : ℕ) → T (bit (getD P i 0) b) → T (bit (getD (outcome P R) i 0) b)
+  pub filled-256 : (P : List ℕ) → FirstRound P → (length (fillPageLeaves P) ≡ 256) × Bytes (fillPageLeaves P)
   pub still-256 : (P R : List ℕ) → FirstRound P → Fits R P → (length (outcome P R) ≡ 256) × Bytes (outcome P R)
+  -- "where writing refuses 8, the page remains filled": a record that does not fit P is refused with P's capacity, and leaves the filled page
+  pub remains-filled : (P R : List ℕ) → FirstRound P → dataCells P < 8 * length R
+      → (writeSecondAnswer (fillPageLeaves P) R ≡ refusal 8 (dataCells P)) × (writeSecondLeaves (fillPageLeaves P) R ≡ fillPageLeaves P)
   -- "reading the outcome alone, into any output long enough and whatever that held, gives the length and the bytes of R"
   pub read-back : (P R out : List ℕ) → FirstRound P → Fits R P → length R ≤ length out
       → (readSecondAnswer (outcome P R) out ≡ result (length R)) × (readSecondLeaves (outcome P R) out ≡ R ++ drop (length R) out)
@@ -188,10 +237,13 @@ pub record Demand3 : Type 0 where
   pub capacity-counts : (P : List ℕ) → FirstRound P → pageCapacityAnswer P ≡ result (dataCells P)
   -- ... and so is the capacity with which `Fits` compares a record
   pub capacity-is : (P : List ℕ) → FirstRound P → capacityAll (pageWords P 44) ≡ dataCells P
+  -- ... and the capacity answered for the filled page that comes from it
+  pub capacity-stays : (P : List ℕ) → FirstRound P → pageCapacityAnswer (fillPageLeaves P) ≡ result (dataCells P)
   -- "It is from 660 to 1,012 bits for every such page, some page has 660 and some page 1,012"
   pub least : (P : List ℕ) → FirstRound P → 660 ≤ dataCells P
   pub greatest : (P : List ℕ) → FirstRound P → dataCells P ≤ 1012
   pub least-met : (P : List ℕ) × FirstRound P × (pageCapacityAnswer P ≡ result 660)
   pub greatest-met : (P : List ℕ) × FirstRound P × (pageCapacityAnswer P ≡ result 1012)
-  -- "and so every record of up to 82 bytes fits each first-round page"
+  -- "and so every record of up to 82 bytes fits each first-round page"; it is accepted over each filled page
   pub eighty-two : (P R : List ℕ) → FirstRound P → Bytes R → length R ≤ 82 → Fits R P
+  pub eighty-two-filled : (F R : List ℕ) → Filled F → length R ≤ 82 → writeSecondAnswer F R ≡ result 0

@@ -1,8 +1,8 @@
--- Just when write first, read first and page capacity accept, and when they refuse by each number, over any shape of page.
+-- Just when write first, read first and the check of a first-round page accept, and when they refuse by each number, over any shape of page.
 -- Assumes nothing.
-use mathlib.Core.Bool.{false, not, _||_}
+use mathlib.Core.Bool.{not}
 use mathlib.Core.List.{List, [], _++_}
-use mathlib.Core.Logic.{_↔_, _⊎_, Iff·trans}
+use mathlib.Core.Logic.{_↔_, Iff·trans}
 use mathlib.Core.Path.{_≡_, refl, sym, ap, _∙_}
 use Prim.Native.Nat.{ℕ, _≤_, _<_}
 use native.Mathlib.Omega.{arith}
@@ -10,13 +10,13 @@ use lib.Dec.{eqb}
 use lib.ListN.{length}
 use Rattle.cells.specs.Bytes.{Bytes}
 use Rattle.answer.specs.Answer.{result, refusal, Check, answer, numbers, among}
-use Rattle.answer.proofs.Tells.{Tells, unequal, less, either, just, later, taken, nothing-left, flat3}
+use Rattle.answer.proofs.Tells.{Tells, unequal, less, just, later, taken, nothing-left, flat3}
 use Rattle.word.specs.Word.{legal}
-use Rattle.rows.specs.Page.{Shape, byte1, byte2, blankOf, FirstRoundOf}
+use Rattle.rows.specs.Page.{Shape, blankOf, FirstRoundOf}
 use Rattle.rows.proofs.Blank.{length-blank, not-blank}
-use Rattle.page.specs.Terms.{SizedOf, FirstHeaderOf, AllPassOf, FirstRefusalsOf}
+use Rattle.page.specs.Terms.{SizedOf, HeaderOf, AllPassOf, RefusalsOf}
 use Rattle.page.specs.Answer.{writeFirstChecks, firstChecks, readFirstChecks}
-use Rattle.page.proofs.Headed.{not-sized, headed-1, headed-5, headed-6, headed-later, headed-taken, word-7, word-later, word-taken}
+use Rattle.page.proofs.Headed.{not-sized, state-refusals, state-later, state-taken}
 
 -- ---- write first
 
@@ -54,11 +54,8 @@ module _ (s : Shape) (P D : List ℕ) where
 -- ---- a first-round page, before other checks
 
 module _ (s : Shape) (P : List ℕ) where
-  header : Tells (not (eqb (byte1 P) 0) || not (eqb (byte2 P) 0)) (¬ (byte1 P ≡ 0) ⊎ ¬ (byte2 P ≡ 0)) ((byte1 P ≡ 0) × (byte2 P ≡ 0))
-  header = either (unequal (byte1 P) 0) (unequal (byte2 P) 0)
-
   -- its length, header and words together
-  first-parts : {X : Type 0} → Bytes P → (FirstHeaderOf s P × (AllPassOf s legal P × X)) ↔ (FirstRoundOf s P × X)
+  first-parts : {X : Type 0} → Bytes P → (HeaderOf 1 s P × (AllPassOf s legal P × X)) ↔ (FirstRoundOf s P × X)
   first-parts b = (
     λ h. (
       record {
@@ -75,34 +72,22 @@ module _ (s : Shape) (P : List ℕ) where
   )
 
   module _ (cs : List Check) (x : ℕ) where
-    -- the refusals that three operations share
-    pub first-refusals : (among 1 (numbers cs) ≡ false) × (among 5 (numbers cs) ≡ false) × (among 6 (numbers cs) ≡ false) × (among 7 (numbers cs) ≡ false)
-        → FirstRefusalsOf s P (answer (firstChecks s P ++ cs) x)
-    unfolding firstChecks numbers among
-    first-refusals f = record {
-      one = headed-1 s P 1 header _ x (f .0);
-      five = headed-5 s P 1 header _ x (f .1);
-      six = headed-6 s P 1 header _ x (f .2);
-      seven = λ i. headed-later s P 1 header _ x 7 i (omega arith) (word-7 s legal P cs x (f .3) i);
-    }
-
     -- a later number, and a result
     pub first-later : {X : Type 0} (n i : ℕ) → Bytes P → ¬ (1 ≡ n) × ¬ (5 ≡ n) × ¬ (6 ≡ n) × ¬ (7 ≡ n) → (answer cs x ≡ refusal n i) ↔ X
         → (answer (firstChecks s P ++ cs) x ≡ refusal n i) ↔ (FirstRoundOf s P × X)
     unfolding firstChecks
-    first-later n i b d e =
-        Iff·trans (headed-later s P 1 header _ x n i (d .0, d .1, d .2) (word-later s legal P cs x n i (d .3) e)) (first-parts b)
+    first-later n i b d e = Iff·trans (state-later 1 legal s P cs x n i d e) (first-parts b)
 
     pub first-taken : {X : Type 0} (v : ℕ) → Bytes P → (answer cs x ≡ result v) ↔ X
         → (answer (firstChecks s P ++ cs) x ≡ result v) ↔ (FirstRoundOf s P × X)
     unfolding firstChecks
-    first-taken v b e = Iff·trans (headed-taken s P 1 header _ x v (word-taken s legal P cs x v e)) (first-parts b)
+    first-taken v b e = Iff·trans (state-taken 1 legal s P cs x v e) (first-parts b)
 
-  -- ---- page capacity, and the check alone
+  -- ---- the check alone
 
-  pub check-refusals : (x : ℕ) → FirstRefusalsOf s P (answer (firstChecks s P) x)
+  pub check-refusals : (x : ℕ) → RefusalsOf 1 legal s P (answer (firstChecks s P) x)
   unfolding firstChecks numbers among
-  check-refusals x = first-refusals [] x (refl, refl, refl, refl)
+  check-refusals x = state-refusals 1 legal s P [] x (refl, refl, refl, refl)
 
   pub check-taken : (x v : ℕ) → Bytes P → (answer (firstChecks s P) x ≡ result v) ↔ (FirstRoundOf s P × (v ≡ x))
   unfolding firstChecks
@@ -115,9 +100,9 @@ module _ (s : Shape) (P : List ℕ) where
     unfolding readFirstChecks
     read-first v b = Iff·trans (first-taken _ 0 v b (taken (less (length out) (s .firstBytes)) 3 0 _ 0 v (nothing-left 0 v))) flat3
 
-    pub read-first-1567 : FirstRefusalsOf s P (answer (readFirstChecks s P out) 0)
-    unfolding readFirstChecks numbers among
-    read-first-1567 = first-refusals _ 0 (refl, refl, refl, refl)
+    pub read-first-1567 : RefusalsOf 1 legal s P (answer (readFirstChecks s P out) 0)
+    unfolding readFirstChecks firstChecks numbers among
+    read-first-1567 = state-refusals 1 legal s P _ 0 (refl, refl, refl, refl)
 
     pub read-first-3 : (i : ℕ) → Bytes P → (answer (readFirstChecks s P out) 0 ≡ refusal 3 i) ↔ (FirstRoundOf s P × (length out < s .firstBytes) × (i ≡ 0))
     unfolding readFirstChecks numbers among

@@ -1,8 +1,8 @@
--- The checks that both rounds share, before others: of the length, the state and the header, and of the words.
+-- The checks that the rounds share, before others: of the length, the state and the header, and of the words.
 -- Assumes nothing.
-use mathlib.Core.Bool.{Bool, false, not}
-use mathlib.Core.List.{List, [], _∷_}
-use mathlib.Core.Logic.{_↔_, Iff·trans}
+use mathlib.Core.Bool.{Bool, false, not, _||_}
+use mathlib.Core.List.{List, [], _∷_, _++_}
+use mathlib.Core.Logic.{_↔_, _⊎_, Iff·trans}
 use mathlib.Core.Path.{_≡_, sym, ap, _∙_, subst}
 use Prim.Native.Nat.{ℕ, _≤_, _<_}
 use native.Mathlib.Omega.{arith}
@@ -10,14 +10,14 @@ use borrow.Author.Tests.{ltb-true, ltb-false}
 use lib.Dec.{T, eqb, ltb}
 use lib.ListN.{length, getD}
 use Rattle.answer.specs.Answer.{result, refusal, Check, refuse, answer, numbers, among}
-use Rattle.answer.proofs.Tells.{Tells, unequal, just, later, taken, flat3, flat4}
+use Rattle.answer.proofs.Tells.{Tells, unequal, either, just, later, taken, flat3, flat4}
 use Rattle.window.specs.Words.{pageWords}
 use Rattle.window.proofs.Words.{length-pageWords, getD-pageWords}
-use Rattle.rows.specs.Page.{Shape, state, lowest}
+use Rattle.rows.specs.Page.{Shape, state, byte1, byte2, lowest}
 use Rattle.rows.proofs.Lowest.{lowest-le, passed-before, failed-there}
 use Rattle.rows.proofs.Scanning.{scan-failed, scan-passed, all-passed}
-use Rattle.page.specs.Terms.{SizedOf, AllPassOf, LowestBadOf}
-use Rattle.page.specs.Answer.{refuseWord}
+use Rattle.page.specs.Terms.{SizedOf, HeaderOf, AllPassOf, LowestBadOf, RefusalsOf}
+use Rattle.page.specs.Answer.{refuseWord, stateChecks}
 
 -- ---- 1, 5 for a state other than k, 6 by a test r, then other checks
 
@@ -115,3 +115,29 @@ module _ (s : Shape) (test : List Bool → Bool) (P : List ℕ) where
 
   pub no-bad-word : (i : ℕ) → i ≡ lowest test words → s .words ≤ i → AllPassOf s test P
   no-bad-word i e h = all-passed test P (s .words) (omega (arith, lowest-le test words, length-pageWords P (s .words)))
+
+-- ---- all four, of a page in state k without a second record, then other checks
+
+module _ (k : ℕ) (test : List Bool → Bool) (s : Shape) (P : List ℕ) (cs : List Check) (x : ℕ) where
+  header : Tells (not (eqb (byte1 P) 0) || not (eqb (byte2 P) 0)) (¬ (byte1 P ≡ 0) ⊎ ¬ (byte2 P ≡ 0)) ((byte1 P ≡ 0) × (byte2 P ≡ 0))
+  header = either (unequal (byte1 P) 0) (unequal (byte2 P) 0)
+
+  -- the refusals that the operations on one state share
+  pub state-refusals : (among 1 (numbers cs) ≡ false) × (among 5 (numbers cs) ≡ false) × (among 6 (numbers cs) ≡ false) × (among 7 (numbers cs) ≡ false)
+      → RefusalsOf k test s P (answer (stateChecks k test s P ++ cs) x)
+  unfolding numbers among
+  state-refusals f = record {
+    one = headed-1 s P k header _ x (f .0);
+    five = headed-5 s P k header _ x (f .1);
+    six = headed-6 s P k header _ x (f .2);
+    seven = λ i. headed-later s P k header _ x 7 i (omega arith) (word-7 s test P cs x (f .3) i);
+  }
+
+  -- a later number, and a result
+  pub state-later : {X : Type 0} (n i : ℕ) → ¬ (1 ≡ n) × ¬ (5 ≡ n) × ¬ (6 ≡ n) × ¬ (7 ≡ n) → (answer cs x ≡ refusal n i) ↔ X
+      → (answer (stateChecks k test s P ++ cs) x ≡ refusal n i) ↔ (HeaderOf k s P × (AllPassOf s test P × X))
+  state-later n i d e = headed-later s P k header _ x n i (d .0, d .1, d .2) (word-later s test P cs x n i (d .3) e)
+
+  pub state-taken : {X : Type 0} (v : ℕ) → (answer cs x ≡ result v) ↔ X
+      → (answer (stateChecks k test s P ++ cs) x ≡ result v) ↔ (HeaderOf k s P × (AllPassOf s test P × X))
+  state-taken v e = headed-taken s P k header _ x v (word-taken s test P cs x v e)

@@ -9,15 +9,14 @@ use lib.Dec.{T}
 use lib.ListN.{length}
 use Rattle.answer.specs.Answer.{Answer, refusal}
 use Rattle.window.specs.Words.{wordAt}
-use Rattle.word.specs.Word.{legal}
 use Rattle.rows.specs.Page.{Shape, state, byte1, byte2}
 
 abbrev pub SizedOf : Shape → List ℕ → Type 0
 SizedOf s P = length P ≡ s .size
 
--- the length and the first three bytes are those of a first-round page
-abbrev pub FirstHeaderOf : Shape → List ℕ → Type 0
-FirstHeaderOf s P = SizedOf s P × (state P ≡ 1) × (byte1 P ≡ 0) × (byte2 P ≡ 0)
+-- the length and the first three bytes are those of a page in state k without a second record: 1 is the first round, 3 is filled
+abbrev pub HeaderOf : ℕ → Shape → List ℕ → Type 0
+HeaderOf k s P = SizedOf s P × (state P ≡ k) × (byte1 P ≡ 0) × (byte2 P ≡ 0)
 
 -- every word passes a test
 abbrev pub AllPassOf : Shape → (List Bool → Bool) → List ℕ → Type 0
@@ -28,9 +27,10 @@ abbrev pub LowestBadOf : Shape → (List Bool → Bool) → List ℕ → ℕ →
 LowestBadOf s test P i = (i < s .words) × (test (wordAt P i) ≡ false) × ((j : ℕ) → j < i → T (test (wordAt P j)))
 
 -- "1 if the page is not 256 bytes", "5 if the state is not 01, 6 if byte 1 or byte 2 is not 0, 7 with the lowest index (0 to 43) of a word that
--- is not legal": the refusals that the answers of read first, page capacity and rewrite share. The index is 0 where the document names none
-pub record FirstRefusalsOf (s : Shape) (P : List ℕ) (a : Answer) : Type 0 where
+-- is not legal": the refusals that the answers of operations on one state share, with that state and what its words must pass. The index is 0
+-- where the document names none
+pub record RefusalsOf (k : ℕ) (test : List Bool → Bool) (s : Shape) (P : List ℕ) (a : Answer) : Type 0 where
   pub one : (i : ℕ) → (a ≡ refusal 1 i) ↔ (¬ SizedOf s P × (i ≡ 0))
-  pub five : (i : ℕ) → (a ≡ refusal 5 i) ↔ (SizedOf s P × ¬ (state P ≡ 1) × (i ≡ 0))
-  pub six : (i : ℕ) → (a ≡ refusal 6 i) ↔ (SizedOf s P × (state P ≡ 1) × (¬ (byte1 P ≡ 0) ⊎ ¬ (byte2 P ≡ 0)) × (i ≡ 0))
-  pub seven : (i : ℕ) → (a ≡ refusal 7 i) ↔ (FirstHeaderOf s P × LowestBadOf s legal P i)
+  pub five : (i : ℕ) → (a ≡ refusal 5 i) ↔ (SizedOf s P × ¬ (state P ≡ k) × (i ≡ 0))
+  pub six : (i : ℕ) → (a ≡ refusal 6 i) ↔ (SizedOf s P × (state P ≡ k) × (¬ (byte1 P ≡ 0) ⊎ ¬ (byte2 P ≡ 0)) × (i ≡ 0))
+  pub seven : (i : ℕ) → (a ≡ refusal 7 i) ↔ (HeaderOf k s P × LowestBadOf s test P i)

@@ -6,5 +6,6 @@ pub mod FirstRecord
 pub mod SecondWords
 pub mod Loaded
 pub mod Measuring
+pub mod Counting
 pub mod Blank
 pub mod Capacities

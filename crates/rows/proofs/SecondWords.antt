@@ -3,7 +3,7 @@
 use mathlib.Core.Bool.{Bool, false}
 use mathlib.Core.List.{List, [], _∷_, _++_, append-assoc, append-nil}
 use mathlib.Core.Path.{_≡_, refl, sym, ap, ap₂, _∙_}
-use Prim.Native.Nat.{ℕ, suc, _+_}
+use Prim.Native.Nat.{ℕ, suc, _+_, _*_, _≤_}
 use native.Mathlib.Omega.{arith}
 use lib.ListN.{length, take, drop, length-append}
 use lib.Seq.{drop-drop, drop-at, take-at, take-all}
@@ -12,7 +12,7 @@ use Rattle.cells.specs.Bytes.{bits}
 use Rattle.cells.proofs.Fits.{fit-spare, length-fit, fit-add, fit-take}
 use Rattle.window.specs.Words.{Words}
 use Rattle.word.specs.Fill.{fill, read, capacity, put}
-use Rattle.word.proofs.Filling.{length-fill}
+use Rattle.word.proofs.Filling.{length-fill, capacity-le}
 use Rattle.word.proofs.SecondBits.{length-put, read-put, put-fit}
 use Rattle.rows.specs.Page.{fillAll, capacityAll, readAll, putAll}
 use Rattle.rows.proofs.EachWord.{Row}
@@ -67,6 +67,12 @@ pub Words-putAll : (ws : List (List Bool)) (l : List Bool) → Words ws → Word
 unfolding putAll put
 Words-putAll [] l h = tt
 Words-putAll (w ∷ ws) l h = (length-put false w l ∙ h .0, Words-putAll ws (drop (length (read w)) l) (h .1))
+
+-- words of 46 cells have at most 23 data cells each
+pub read-most : (ws : List (List Bool)) → Words ws → length (readAll ws) ≤ 23 * length ws
+unfolding readAll read
+read-most [] h = omega arith
+read-most (w ∷ ws) h = omega (arith, length-append (read w) (readAll ws), capacity-le false w, h .0, read-most ws (h .1))
 
 -- n words with second bits are n words
 pub row-rewritten : (n : ℕ) (ws : List (List Bool)) (l : List Bool) → Row n ws → Row n (putAll (fillAll ws) l)

@@ -11,7 +11,7 @@ use Rattle.cells.specs.Cells.{number, someSet}
 use Rattle.cells.specs.Bytes.{bits, bytes, highFirst, Bytes, zeros}
 use Rattle.window.specs.Words.{wordAt, pageWords, putWords}
 use Rattle.word.specs.Word.{sum, legal, zeckendorf}
-use Rattle.word.specs.Fill.{fill, read, capacity, put, wellFormed}
+use Rattle.word.specs.Fill.{fill, read, capacity, put, wellFormed, isFilled}
 
 -- ---- the shape
 
@@ -32,7 +32,7 @@ page256 = record { size = 256; words = 44; firstBytes = 176; secondBytes = 126 }
 
 -- ---- bytes and words
 
--- byte 0 is the state: 00 blank, 01 first round, 07 second round
+-- byte 0 is the state: 00 blank, 01 first round, 03 filled, 07 second round
 abbrev pub state : List ℕ → ℕ
 state page = getD page 0 0
 
@@ -93,7 +93,15 @@ putAll (w ∷ ws) l = put w l ∷ putAll ws (drop (length (read w)) l)
 unfoldable pub outcomeOf : Shape → List ℕ → List ℕ → List ℕ
 outcomeOf s page bs = putWords (7 ∷ length bs ∷ drop 2 page) (putAll (fillAll (pageWords page (s .words))) (bits bs))
 
--- what the data cells of a second-round page hold: those that reading back finds
+-- a first-round page after the fill: state 03, and all words filled
+unfoldable pub filledPage : Shape → List ℕ → List ℕ
+filledPage s page = putWords (3 ∷ drop 1 page) (fillAll (pageWords page (s .words)))
+
+-- a filled page after a record was written over it: state 07, byte 1, the record's bits in the data cells, and 0 in the spare ones
+unfoldable pub secondPage : Shape → List ℕ → List ℕ → List ℕ
+secondPage s page bs = putWords (7 ∷ length bs ∷ drop 2 page) (putAll (pageWords page (s .words)) (bits bs))
+
+-- what the data cells of a filled page or of a second-round page hold: those that reading back finds
 abbrev pub secondBitsOf : Shape → List ℕ → List Bool
 secondBitsOf s page = readAll (pageWords page (s .words))
 
@@ -115,6 +123,16 @@ pub record FirstRoundOf (s : Shape) (page : List ℕ) : Type 0 where
   pub byte1-zero : byte1 page ≡ 0
   pub byte2-zero : byte2 page ≡ 0
   pub words-legal : (i : ℕ) → i < s .words → T (legal (wordAt page i))
+
+-- the term "filled page" (document 02, Change 2): a page in state 03 whose bytes 1 and 2 are 0 and whose words are all well formed with no
+-- data cell set
+pub record FilledOf (s : Shape) (page : List ℕ) : Type 0 where
+  pub sized : length page ≡ s .size
+  pub of-bytes : Bytes page
+  pub in-state : state page ≡ 3
+  pub byte1-zero : byte1 page ≡ 0
+  pub byte2-zero : byte2 page ≡ 0
+  pub words-filled : (i : ℕ) → i < s .words → T (isFilled (wordAt page i))
 
 -- a page that read second accepts, given output enough (document 01 has no term for it): state 07, byte 1 at most the
 -- longest record's, byte 2 at 0, all words well formed, data cells enough for the record, the spare ones 0

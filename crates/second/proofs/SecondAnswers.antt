@@ -1,4 +1,4 @@
--- Just when rewrite and read second accept, and when they refuse by each number, over any shape of page.
+-- Just when write second and read second accept, and when they refuse by each number, over any shape of page.
 -- Assumes nothing.
 use mathlib.Core.Bool.{false, not, _||_, Bool}
 use mathlib.Core.List.{List, _∷_, _++_}
@@ -12,32 +12,32 @@ use Rattle.cells.specs.Cells.{someSet}
 use Rattle.cells.specs.Bytes.{Bytes}
 use Rattle.answer.specs.Answer.{result, refusal, Check, refuse, answer, numbers, among}
 use Rattle.answer.proofs.Tells.{Tells, unequal, less, itself, either, just, later, taken, nothing-left, flat3, flat4}
-use Rattle.window.specs.Words.{pageWords}
-use Rattle.word.specs.Fill.{wellFormed}
-use Rattle.rows.specs.Page.{Shape, state, byte1, byte2, capacityAll, FirstRoundOf, SecondRoundOf, secondBitsOf}
-use Rattle.page.specs.Terms.{SizedOf, AllPassOf, LowestBadOf, FirstRefusalsOf}
-use Rattle.page.proofs.FirstAnswers.{first-refusals, first-later, first-taken}
+use Rattle.word.specs.Fill.{wellFormed, isFilled}
+use Rattle.rows.specs.Page.{Shape, state, byte1, byte2, FilledOf, SecondRoundOf, secondBitsOf}
+use Rattle.page.specs.Terms.{SizedOf, AllPassOf, LowestBadOf, RefusalsOf}
 use Rattle.page.proofs.Headed.{headed-1, headed-5, headed-6, headed-later, headed-taken, word-7, word-later, word-taken}
+use Rattle.filled.specs.Answer.{roomFilled}
+use Rattle.filled.proofs.FilledAnswers.{filled-refusals, filled-later, filled-taken}
 use Rattle.second.specs.Terms.{SecondHeaderOf}
-use Rattle.second.specs.Answer.{rewriteChecks, secondChecks, readSecondChecks}
+use Rattle.second.specs.Answer.{writeSecondChecks, secondChecks, readSecondChecks}
 
--- ---- rewrite
+-- ---- write second
 
 module _ (s : Shape) (P R : List ℕ) where
   abbrev room : ℕ
-  room = capacityAll (pageWords P (s .words))
+  room = roomFilled s P
 
-  pub rewrite : (v : ℕ) → Bytes P → (answer (rewriteChecks s P R) 0 ≡ result v) ↔ (FirstRoundOf s P × (8 * length R ≤ room) × (v ≡ 0))
-  unfolding rewriteChecks
-  rewrite v b = Iff·trans (first-taken s P _ 0 v b (taken (less room (8 * length R)) 8 room _ 0 v (nothing-left 0 v))) flat3
+  pub write-second : (v : ℕ) → Bytes P → (answer (writeSecondChecks s P R) 0 ≡ result v) ↔ (FilledOf s P × (8 * length R ≤ room) × (v ≡ 0))
+  unfolding writeSecondChecks
+  write-second v b = Iff·trans (filled-taken s P _ 0 v b (taken (less room (8 * length R)) 8 room _ 0 v (nothing-left 0 v))) flat3
 
-  pub rewrite-1567 : FirstRefusalsOf s P (answer (rewriteChecks s P R) 0)
-  unfolding rewriteChecks numbers among
-  rewrite-1567 = first-refusals s P _ 0 (refl, refl, refl, refl)
+  pub write-second-1567 : RefusalsOf 3 isFilled s P (answer (writeSecondChecks s P R) 0)
+  unfolding writeSecondChecks numbers among
+  write-second-1567 = filled-refusals s P _ 0 (refl, refl, refl, refl)
 
-  pub rewrite-8 : (c : ℕ) → Bytes P → (answer (rewriteChecks s P R) 0 ≡ refusal 8 c) ↔ (FirstRoundOf s P × (room < 8 * length R) × (c ≡ room))
-  unfolding rewriteChecks numbers among
-  rewrite-8 c b = Iff·trans (first-later s P _ 0 8 c b (omega arith) (just (less room (8 * length R)) 8 room _ 0 refl c)) flat3
+  pub write-second-8 : (c : ℕ) → Bytes P → (answer (writeSecondChecks s P R) 0 ≡ refusal 8 c) ↔ (FilledOf s P × (room < 8 * length R) × (c ≡ room))
+  unfolding writeSecondChecks numbers among
+  write-second-8 c b = Iff·trans (filled-later s P _ 0 8 c b (omega arith) (just (less room (8 * length R)) 8 room _ 0 refl c)) flat3
 
 -- ---- a second-round page, before other checks
 

@@ -1,5 +1,5 @@
--- What rewrite and read second answer and what they leave in their buffers (document 01, "What each operation returns and refuses"), and
--- the paper's number and values for each case of their enums. The checks are over a shape of page.
+-- What write second (document 02, Change 2) and read second (document 01, "What each operation returns and refuses") answer and what they
+-- leave in their buffers, and the papers' number and values for each case of their enums. The checks are over a shape of page.
 -- Assumes nothing.
 use mathlib.Core.Bool.{not, _||_}
 use mathlib.Core.List.{List, [], _∷_, _++_}
@@ -11,26 +11,27 @@ use Rattle.cells.specs.Bytes.{atStart}
 use Rattle.answer.specs.Answer.{Answer, result, refusal, Check, refuse, answer, after}
 use Rattle.window.specs.Words.{pageWords}
 use Rattle.word.specs.Fill.{wellFormed}
-use Rattle.rows.specs.Page.{Shape, page256, state, byte1, byte2, capacityAll, outcomeOf, secondRecord, secondBitsOf}
-use Rattle.page.specs.Answer.{refuseWord, firstChecks}
-use Rattle.second.specs.declared.Rewritten.{Rewritten}
-use Rattle.second.specs.declared.Rewritten.the-variants as rewritten
+use Rattle.rows.specs.Page.{Shape, page256, state, byte1, byte2, secondPage, secondRecord, secondBitsOf}
+use Rattle.page.specs.Answer.{refuseWord}
+use Rattle.filled.specs.Answer.{filledChecks, roomFilled}
+use Rattle.second.specs.declared.SecondWritten.{SecondWritten}
+use Rattle.second.specs.declared.SecondWritten.the-variants as secondWritten
 use Rattle.second.specs.declared.SecondRead.{SecondRead}
 use Rattle.second.specs.declared.SecondRead.the-variants as secondRead
 
--- ---- rewrite
+-- ---- write second
 
--- "Refuses 1, 5, 6, 7 as in read first, then 8 with the page's capacity if 8 times the record's length exceeds it."
-unfoldable pub rewriteChecks : Shape → List ℕ → List ℕ → List Check
-rewriteChecks s page bs =
-    firstChecks s page
-    ++ (refuse (ltb (capacityAll (pageWords page (s .words))) (8 * length bs)) 8 (capacityAll (pageWords page (s .words))) ∷ [])
+-- "writing refuses 1, 5 for a state other than 03, 6, 7 for a word that is not well formed or has a data cell set, then 8": with the page's
+-- capacity, "if 8 times the record's length exceeds it"
+unfoldable pub writeSecondChecks : Shape → List ℕ → List ℕ → List Check
+writeSecondChecks s page bs = filledChecks s page ++ (refuse (ltb (roomFilled s page) (8 * length bs)) 8 (roomFilled s page) ∷ [])
 
-abbrev pub rewriteAnswer : List ℕ → List ℕ → Answer
-rewriteAnswer page bs = answer (rewriteChecks page256 page bs) 0
+abbrev pub writeSecondAnswer : List ℕ → List ℕ → Answer
+writeSecondAnswer page bs = answer (writeSecondChecks page256 page bs) 0
 
-abbrev pub rewriteLeaves : List ℕ → List ℕ → List ℕ
-rewriteLeaves page bs = after (rewriteAnswer page bs) page (outcomeOf page256 page bs)
+-- "Writing puts a record over a state 03 page and gives state 07."
+abbrev pub writeSecondLeaves : List ℕ → List ℕ → List ℕ
+writeSecondLeaves page bs = after (writeSecondAnswer page bs) page (secondPage page256 page bs)
 
 -- ---- read second
 
@@ -56,15 +57,15 @@ readSecondAnswer page out = answer (readSecondChecks page256 page out) (byte1 pa
 abbrev pub readSecondLeaves : List ℕ → List ℕ → List ℕ
 readSecondLeaves page out = after (readSecondAnswer page out) out (atStart (secondRecord page256 page) out)
 
--- ---- the paper's number and values for each case of an enum
+-- ---- the papers' number and values for each case of an enum
 
-abbrev pub rewrittenCode : Rewritten → Answer
-rewrittenCode rewritten.Done = result 0
-rewrittenCode rewritten.PageLength = refusal 1 0
-rewrittenCode rewritten.State = refusal 5 0
-rewrittenCode rewritten.Header = refusal 6 0
-rewrittenCode (rewritten.Word i) = refusal 7 i
-rewrittenCode (rewritten.RecordLength capacity) = refusal 8 capacity
+abbrev pub secondWrittenCode : SecondWritten → Answer
+secondWrittenCode secondWritten.Done = result 0
+secondWrittenCode secondWritten.PageLength = refusal 1 0
+secondWrittenCode secondWritten.State = refusal 5 0
+secondWrittenCode secondWritten.Header = refusal 6 0
+secondWrittenCode (secondWritten.Word i) = refusal 7 i
+secondWrittenCode (secondWritten.RecordLength capacity) = refusal 8 capacity
 
 abbrev pub secondReadCode : SecondRead → Answer
 secondReadCode (secondRead.Length n) = result n

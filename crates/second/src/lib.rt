@@ -1,18 +1,17 @@
-// The second record of a page of 256 bytes and 44 words: written over a first-round page, and read back.
+// The second record of a page of 256 bytes and 44 words: written over a filled page, and read back.
 //
 // Each operation takes byte slices of every length and has no `requires`. It answers by an enum of its own: a value case, and a case for
-// each refusal. The first refusal that applies, in document 01's order, is given, and a refusal writes no byte.
+// each refusal. The first refusal that applies, in the documents' order, is given, and a refusal writes no byte.
 use cells::copy_start;
 use cells::zero_from;
-use page::check::FirstCheck;
-use page::check::check_first;
+use filled::check::FilledCheck;
+use filled::check::check_filled;
 use rows::second_round;
-use rows::words::capacity_of;
 ghost use mathlib.Core.Path.{_≡_};
-ghost use Rattle.second.specs.Answer.{rewriteAnswer, rewriteLeaves, readSecondAnswer, readSecondLeaves, rewrittenCode, secondReadCode};
+ghost use Rattle.second.specs.Answer.{writeSecondAnswer, writeSecondLeaves, readSecondAnswer, readSecondLeaves, secondWrittenCode, secondReadCode};
 
-// What rewriting a page gives.
-pub enum Rewritten {
+// What writing a second record gives.
+pub enum SecondWritten {
     Done,
     PageLength,
     State,
@@ -32,28 +31,27 @@ pub enum SecondRead {
     OutputLength,
 }
 
-// Rewrite: puts a second record over a first-round page. A record of any length is taken: the capacity is divided by 8, so that no length
+// Write second: puts a second record over a filled page. A record of any length is taken: the capacity is divided by 8, so that no length
 // is multiplied.
-pub fn rewrite(page: &mut [u8], second: &[u8]) -> Rewritten
-    ensures answer { λ r. ⌜ rewrittenCode r ≡ rewriteAnswer (now (page .entry)) (now (second .entry)) ⌝ }
-    ensures bytes { λ _. ⌜ now (page .exit) ≡ rewriteLeaves (now (page .entry)) (now (second .entry)) ⌝ }
+pub fn write_second(page: &mut [u8], second: &[u8]) -> SecondWritten
+    ensures answer { λ r. ⌜ secondWrittenCode r ≡ writeSecondAnswer (now (page .entry)) (now (second .entry)) ⌝ }
+    ensures bytes { λ _. ⌜ now (page .exit) ≡ writeSecondLeaves (now (page .entry)) (now (second .entry)) ⌝ }
 {
-    let c = check_first(page, 256, 44);
+    let c = check_filled(page, 256, 44);
     match c {
-        FirstCheck::Passed => {
-            let room = capacity_of(page, 44);
+        FilledCheck::Passed(room) => {
             if ((room / 8) as usize) < second.len() {
-                return Rewritten::RecordLength(room);
+                return SecondWritten::RecordLength(room);
             }
             page[0] = 7;
             page[1] = second.len() as u8;
-            second_round::rewrite_words(page, second, 44);
-            Rewritten::Done
+            second_round::put_record(page, second, 44);
+            SecondWritten::Done
         }
-        FirstCheck::PageLength => Rewritten::PageLength,
-        FirstCheck::State => Rewritten::State,
-        FirstCheck::Header => Rewritten::Header,
-        FirstCheck::Word(i) => Rewritten::Word(i),
+        FilledCheck::PageLength => SecondWritten::PageLength,
+        FilledCheck::State => SecondWritten::State,
+        FilledCheck::Header => SecondWritten::Header,
+        FilledCheck::Word(i) => SecondWritten::Word(i),
     }
 }
 

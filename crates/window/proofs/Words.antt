@@ -9,8 +9,8 @@ use native.Mathlib.Nat.{zero-add, suc-add, mul-div-cancel-left}
 use native.Mathlib.Numerals.{add-one}
 use native.Mathlib.Omega.{arith}
 use lib.Dec.{lit<}
-use lib.ListN.{length, take, drop, getD, length-append, length-drop, take-append-drop}
-use lib.Seq.{take-at, drop-at, length-take-le, drop-drop, take-nil, drop-append-add, take-add}
+use lib.ListN.{length, take, drop, getD, set, length-append, length-drop, take-append-drop}
+use lib.Seq.{take-at, drop-at, length-take-le, drop-drop, take-nil, drop-append-add, take-add, drop-set-lt}
 use Rattle.cells.specs.Cells.{number, cells}
 use Rattle.cells.specs.Bytes.{bits, bytes, Bytes}
 use Rattle.cells.proofs.Numbers.{cells-of, number-below}
@@ -175,6 +175,11 @@ length-pageWords page n = length-pieces n (drop 24 (bits page))
 pub Words-pageWords : (page : List ℕ) (n : ℕ) → start n ≤ 8 * length page → Words (pageWords page n)
 unfolding pageWords
 Words-pageWords page n h = Words-pieces n (drop 24 (bits page)) (omega (arith, length-drop 24 (bits page), length-bits page))
+
+-- a byte before the words set: the words stay
+pub pageWords-set : (page : List ℕ) (j v n : ℕ) → j < 3 → pageWords (set page j v) n ≡ pageWords page n
+unfolding pageWords
+pageWords-set page j v n h = ap (pieces n) (drop-bits 3 (set page j v) ∙ ap bits (drop-set-lt 3 page j v h) ∙ sym (drop-bits 3 page))
 
 -- a page's own words put again
 pub putWords-own : (page : List ℕ) (n : ℕ) → Bytes page → start n ≤ 8 * length page → putWords page (pageWords page n) ≡ page

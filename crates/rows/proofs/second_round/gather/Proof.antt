@@ -40,7 +40,7 @@ same-length c = c .before .before .before .before .loop .inv .1
 returns : tie.Need-returns Inv-loop μ-loop
 returns c =
     let g = c .before .before .before .before .loop .inv .2 in
-    (sym (scan-failed wellFormed _ _ _ (omega arith) (g .formed) (sym (tested (c .before)) ∙ not-true _ (c .if1 .taken))), (g .counted, g .held))
+    (sym (scan-failed wellFormed _ _ _ (omega arith) (g .formed) (sym (tested (c .before)) ∙ not-true _ (c .if1 .taken))), (g .counted .sum, g .held))
 
 separators-of-requires : tie.Need-separators-of-requires Inv-loop μ-loop
 separators-of-requires c κs = loaded-lt _ _ _ (omega arith) (c .before .before .load-word .ensures)
@@ -64,7 +64,7 @@ put-cells-requires c κs =
     let count = c .before .before in
     let w = word (count .before) in
     let n = count .data-cells .ensures in (
-      omega (arith, count .before .before .before .before .before .before .loop .inv .2 .few),
+      omega (arith, count .before .before .before .before .before .before .loop .inv .2 .counted .few),
       omega (arith, n, w .count, w .some),
       omega (arith, n, w .count, w .most),
       read-fits _ _ _ _ _ _ w n (c .read-bits .ensures),
@@ -81,7 +81,7 @@ turned c =
     (count .data-cells .ensures) (c .before .read-bits .ensures) (c .put-cells .ensures)
 
 add-at : tie.Need-add-at Inv-loop μ-loop
-add-at c = omega (arith, turned (c .before .before) .few)
+add-at c = omega (arith, turned (c .before .before) .counted .few)
 
 add-i : tie.Need-add-i Inv-loop μ-loop
 add-i c = omega arith
@@ -102,7 +102,7 @@ returns-2 c =
     let a = c .before .before .before .before .args in
     let e : c .before .loop .i ≡ a .n = omega arith in
     let g = c .before .loop .inv .2 in
-    (e ∙ sym (scan-passed wellFormed _ (a .n) (subst (Passed wellFormed (a .page .now)) e (g .formed))), (g .counted, g .held))
+    (e ∙ sym (scan-passed wellFormed _ (a .n) (subst (Passed wellFormed (a .page .now)) e (g .formed))), (g .counted .sum, g .held))
 
 pub gather-spec : {M : Type 1} → statement M
 gather-spec =

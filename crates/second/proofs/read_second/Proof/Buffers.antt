@@ -4,16 +4,13 @@ use mathlib.Core.List.{List, [], _∷_, _++_}
 use mathlib.Core.Path.{_≡_, refl, sym, ap, _∙_}
 use Prim.Native.Nat.{ℕ, zero, _+_, _*_, _≤_}
 use native.Mathlib.Omega.{arith}
-use lib.ListN.{length, take, drop, replicate, length-append, length-replicate}
+use lib.ListN.{length, take, drop, replicate, length-replicate}
 use Rattle.cells.specs.Cells.{cells, someSet}
 use Rattle.cells.specs.Bytes.{bits, bytes, zeros}
 use Rattle.cells.proofs.Fits.{drop-clear, spare-clear, take-bytes, bytes-front, zeros-bits, zero-bits}
 use Rattle.cells.proofs.Bytes.{drop-bits, Bytes-bytes, Bytes-drop}
-use Rattle.window.specs.Words.{splice, putCells, Words}
+use Rattle.window.specs.Words.{splice, putCells}
 use Rattle.window.proofs.Words.{bits-putCells}
-use Rattle.word.specs.Fill.{read}
-use Rattle.word.proofs.Filling.{capacity-le}
-use Rattle.rows.specs.Page.{readAll}
 
 -- ---- the buffer
 
@@ -37,9 +34,3 @@ unfolding splice
 buffer-record m k r h l =
     ap (λ (n : ℕ). take k (bytes n (r ++ after-bits m r))) (length-replicate m 0)
     ∙ take-bytes k m (r ++ after-bits m r) l ∙ bytes-front k r (after-bits m r) h
-
--- words of 46 cells have at most 23 data cells each
-pub read-most : (ws : List (List Bool)) → Words ws → length (readAll ws) ≤ 23 * length ws
-unfolding readAll read
-read-most [] h = omega arith
-read-most (w ∷ ws) h = omega (arith, length-append (read w) (readAll ws), capacity-le false w, h .0, read-most ws (h .1))

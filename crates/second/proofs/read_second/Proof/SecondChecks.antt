@@ -15,12 +15,13 @@ use Rattle.window.specs.Words.{putCells, pageWords}
 use Rattle.window.proofs.Words.{length-pageWords, Words-pageWords}
 use Rattle.word.specs.Fill.{wellFormed}
 use Rattle.rows.specs.Page.{byte1, lowest, readAll, secondRecord, page256, SecondRoundOf, secondBitsOf}
+use Rattle.rows.proofs.SecondWords.{read-most}
 use Rattle.page.specs.Terms.{AllPassOf}
 use Rattle.page.proofs.Headed.{all-words, no-bad-word}
 use Rattle.second.specs.Terms.{SecondHeaderOf}
 use Rattle.second.specs.Answer.{readSecondAnswer}
 use Rattle.second.proofs.SecondAnswers.{read-second, read-second-3, read-second-9}
-use Rattle.second.proofs.read_second.Proof.Buffers.{buffer-spare, buffer-record, read-most}
+use Rattle.second.proofs.read_second.Proof.Buffers.{buffer-spare, buffer-record}
 
 -- all words are well formed, and their bits, n of them, are in the buffer
 pub record Found (P buffer : List ℕ) (n : ℕ) : Type 0 where

@@ -1,12 +1,12 @@
 -- The second bits of a page gathered word after word: what holds before word i, and a turn for it. Assumes nothing.
 use mathlib.Core.Bool.{Bool, true, false}
 use mathlib.Core.List.{List, _++_}
-use mathlib.Core.Path.{_≡_, refl, sym, ap, ap₂, _∙_, subst}
+use mathlib.Core.Path.{_≡_, sym, ap, ap₂, _∙_, subst}
 use Prim.Native.Nat.{ℕ, _+_, _*_, _^_, _≤_, _<_}
 use native.Mathlib.Nat.{zero-add}
 use native.Mathlib.Omega.{arith}
 use lib.Dec.{T}
-use lib.ListN.{length, length-append}
+use lib.ListN.{length}
 use Rattle.cells.specs.Cells.{first, number, cells}
 use Rattle.cells.specs.Bytes.{Bytes}
 use Rattle.cells.proofs.Numbers.{number-lt, cells-number}
@@ -24,6 +24,7 @@ use Rattle.word.proofs.Claims.{capacity-bounds, well-formed-words}
 use Rattle.rows.specs.Page.{readAll}
 use Rattle.rows.proofs.SecondWords.{readAll-more}
 use Rattle.rows.proofs.Scanning.{Passed, passed-none, passed-more}
+use Rattle.rows.proofs.Counting.{Counting, counting-start, counting-turn}
 use Rattle.rows.proofs.Loaded.{loaded-cells}
 
 -- ---- word i and its separators
@@ -78,15 +79,13 @@ module _ (page buffer₀ : List ℕ) where
   -- before word i: the words before it are well formed, and their bits are in the buffer
   pub record Gathering (buffer : List ℕ) (at i : ℕ) : Type 0 where
     pub formed : Passed wellFormed page i
-    pub few : at ≤ 23 * i
-    pub counted : at ≡ length (readAll (pageWords page i))
+    pub counted : Counting page at i
     pub held : buffer ≡ putCells buffer₀ 0 (readAll (pageWords page i))
 
   pub gathering-start : Bytes buffer₀ → Gathering buffer₀ 0 0
   gathering-start b = record {
     formed = passed-none wellFormed page;
-    few = omega arith;
-    counted = unfold readAll pageWords pieces in refl;
+    counted = counting-start page;
     held = unfold readAll pageWords pieces splice in sym (bytes-bits buffer₀ b);
   }
 
@@ -103,14 +102,13 @@ module _ (page buffer₀ : List ℕ) where
       let nx : n ≡ length (read x) = en ∙ sw .count in
       let vx : cells n v ≡ read x =
       ap₂ cells nx (ev ∙ ap (λ (l : List Bool). number (read l)) (sw .is-word)) ∙ cells-number (read x) in
-      let at0 : at ≡ 0 + length r = g .counted ∙ sym (zero-add (length r)) in
+      let at0 : at ≡ 0 + length r = g .counted .sum ∙ sym (zero-add (length r)) in
       record {
         formed = passed-more wellFormed page i (g .formed) (sw .formed);
-        few = omega (arith, g .few, sw .most);
-        counted = omega (arith, g .counted, length-append r (read x), ap length more);
+        counted = counting-turn page at i n nx (omega (arith, nx, sw .most)) (g .counted);
         held =
             ex ∙ ap₂ (λ (k : ℕ) (l : List Bool). putCells buffer k l) at0 vx
             ∙ ap (λ (b : List ℕ). putCells b (0 + length r) (read x)) (g .held)
-            ∙ putCells-more buffer₀ 0 r (read x) (omega (arith, g .few, g .counted))
+            ∙ putCells-more buffer₀ 0 r (read x) (omega (arith, g .counted .few, g .counted .sum))
             ∙ ap (putCells buffer₀ 0) (sym more);
       }

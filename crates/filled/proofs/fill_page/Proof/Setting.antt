@@ -1,0 +1,16 @@
+-- The state that fill page sets before it fills the words. Assumes nothing.
+use mathlib.Core.Bool.{Bool}
+use mathlib.Core.List.{List, _∷_}
+use mathlib.Core.Path.{_≡_, ap₂}
+use Prim.Native.Nat.{ℕ, _<_}
+use native.Mathlib.Omega.{arith}
+use lib.ListN.{length, set}
+use lib.Seq.{set-split}
+use Rattle.window.specs.Words.{pageWords, putWords}
+use Rattle.window.proofs.Words.{pageWords-set}
+use Rattle.rows.specs.Page.{Shape, fillAll, filledPage}
+
+pub filled-set : (s : Shape) (P : List ℕ) → 0 < length P → putWords (set P 0 3) (fillAll (pageWords (set P 0 3) (s .words))) ≡ filledPage s P
+unfolding filledPage
+filled-set s P h =
+    ap₂ (λ (p : List ℕ) (ws : List (List Bool)). putWords p (fillAll ws)) (set-split P 0 3 h) (pageWords-set P 0 3 (s .words) (omega arith))

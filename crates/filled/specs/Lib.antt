@@ -1,0 +1,2 @@
+-- What filling a page and measuring one answer and leave.
+pub mod Answer

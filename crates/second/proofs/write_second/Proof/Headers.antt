@@ -1,0 +1,50 @@
+-- The header bytes that write second sets before it puts the words, and the room for a record. Assumes nothing.
+use mathlib.Core.Bool.{Bool}
+use mathlib.Core.List.{List, _∷_}
+use mathlib.Core.Path.{_≡_, refl, ap, ap₂, _∙_}
+use Prim.Native.Nat.{ℕ, _/_, _≤_, _<_}
+use native.Mathlib.Omega.{arith}
+use lib.ListN.{length, drop, set, length-set, length-drop}
+use lib.Seq.{set-split, drop-drop}
+use Rattle.cells.specs.Bytes.{bits}
+use Rattle.answer.specs.Answer.{result, refusal}
+use Rattle.window.specs.Words.{pageWords, putWords}
+use Rattle.window.proofs.Words.{pageWords-set}
+use Rattle.rows.specs.Page.{Shape, page256, putAll, secondPage, FilledOf}
+use Rattle.rows.proofs.EachWord.{row-page}
+use Rattle.rows.proofs.SecondWords.{read-most}
+use Rattle.filled.specs.Answer.{roomFilled}
+use Rattle.second.specs.Answer.{writeSecondAnswer}
+use Rattle.second.proofs.SecondAnswers.{write-second, write-second-8}
+
+header-set : (P : List ℕ) (a b : ℕ) → 2 ≤ length P → set (set P 0 a) 1 b ≡ a ∷ b ∷ drop 2 P
+header-set P a b h =
+    ap (λ (p : List ℕ). set p 1 b) (set-split P 0 a (omega arith))
+    ∙ ap (λ (p : List ℕ). a ∷ p) (set-split (drop 1 P) 0 b (omega (arith, length-drop 1 P)) ∙ ap (λ (p : List ℕ). b ∷ p) (drop-drop 1 1 P))
+
+pub header-length : (P : List ℕ) (a b : ℕ) → length (set (set P 0 a) 1 b) ≡ length P
+header-length P a b = length-set (set P 0 a) 1 b ∙ length-set P 0 a
+
+-- the words do not depend on the header
+pub header-words : (P : List ℕ) (a b n : ℕ) → pageWords (set (set P 0 a) 1 b) n ≡ pageWords P n
+header-words P a b n = pageWords-set (set P 0 a) 1 b n (omega arith) ∙ pageWords-set P 0 a n (omega arith)
+
+pub second-set : (s : Shape) (P bs : List ℕ) → 2 ≤ length P
+    → putWords (set (set P 0 7) 1 (length bs)) (putAll (pageWords (set (set P 0 7) 1 (length bs)) (s .words)) (bits bs)) ≡ secondPage s P bs
+unfolding secondPage
+second-set s P bs h =
+    ap₂ (λ (p : List ℕ) (ws : List (List Bool)). putWords p (putAll ws (bits bs)))
+    (header-set P 7 (length bs) h) (header-words P 7 (length bs) (s .words))
+
+-- the room for a record: at most 1012 bits, so a record that fits has a length below 256
+module _ (P R : List ℕ) (f : FilledOf page256 P) (room : ℕ) (e : room ≡ roomFilled page256 P) where
+  pub room-small : room ≤ 1012
+  room-small =
+      let r = row-page P 44 (omega (arith, f .sized)) in
+      omega (arith, r .0, read-most (pageWords P 44) (r .1))
+
+  pub write-long : room / 8 < length R → writeSecondAnswer P R ≡ refusal 8 room
+  write-long h = write-second-8 page256 P R room (f .of-bytes) .1 (f, omega arith, e)
+
+  pub write-done : length R ≤ room / 8 → writeSecondAnswer P R ≡ result 0
+  write-done h = write-second page256 P R 0 (f .of-bytes) .1 (f, omega arith, refl)
