@@ -1,12 +1,12 @@
 -- Each operation's packed answer gives its two parts back: every result and every index is below 2 ^ 56.
 -- Assumes nothing.
-use mathlib.Core.Bool.{Bool, false}
+use mathlib.Core.Bool.{Bool, true, false, cond}
 use mathlib.Core.List.{List, [], _∷_, _++_}
 use Prim.Native.Nat.{ℕ, zero, suc, _*_, _/_, _^_, _≤_, _<_}
 use native.Mathlib.Nat.{min-le-left}
 use native.Mathlib.Omega.{arith}
-use lib.Dec.{ltb}
-use lib.ListN.{length, take, drop, length-take}
+use lib.Dec.{eqb, ltb}
+use lib.ListN.{length, take, drop, length-append, length-take}
 use Rattle.cells.specs.Cells.{cells}
 use Rattle.cells.specs.Bytes.{bits}
 use Rattle.cells.proofs.Numbers.{length-cells}
@@ -16,16 +16,17 @@ use Rattle.answer.proofs.Chains.{taken-apart}
 use Rattle.answer.proofs.Tells.{less, unequal, either}
 use Rattle.window.specs.Words.{pieces, pageWords}
 use Rattle.window.proofs.Words.{length-pageWords}
-use Rattle.word.specs.Fill.{wellFormed, fill, read, capacity}
+use Rattle.word.specs.Fill.{wellFormed, isFilled, fill, read, capacity}
 use Rattle.word.specs.Word.{legal}
 use Rattle.word.specs.Answer.{legalChecks, ifLegal}
 use Rattle.word.proofs.Sums.{sum-fits, word-lt}
 use Rattle.word.proofs.Filling.{capacity-le, length-fill}
 use Rattle.word.proofs.FreeCells.{fill-lt}
-use Rattle.rows.specs.Page.{page256, byte1, byte2, lowest, capacityAll}
+use Rattle.rows.specs.Page.{page256, state, byte1, byte2, lowest, capacityAll, readAll}
 use Rattle.rows.proofs.Lowest.{lowest-le}
-use Rattle.page.specs.Answer.{writeFirstChecks, firstChecks, readFirstChecks}
-use Rattle.second.specs.Answer.{rewriteChecks, secondChecks, readSecondChecks}
+use Rattle.page.specs.Answer.{writeFirstChecks, stateChecks, firstChecks, readFirstChecks}
+use Rattle.filled.specs.Answer.{filledChecks, capacityChecks, roomFilled, roomOf}
+use Rattle.second.specs.Answer.{writeSecondChecks, secondChecks, readSecondChecks}
 use Rattle.transfer.specs.File.{fileOf}
 use Rattle.transfer.specs.Answer.{writeFileChecks}
 use Rattle.transfer.proofs.Places.{length-file}
@@ -68,9 +69,29 @@ page-small P = omega (arith, capacities-small 44 (drop 24 (bits P)))
 word-small : (test : List Bool → Bool) (P : List ℕ) → lowest test (pageWords P 44) < 2 ^ 56
 word-small test P = omega (arith, lowest-le test (pageWords P 44), length-pageWords P 44)
 
-first-small : (P : List ℕ) (cs : List Check) → Small cs → Small (firstChecks page256 P ++ cs)
-unfolding firstChecks
-first-small P cs h = (omega arith, (omega arith, (omega arith, (word-small legal P, h))))
+-- the data cells of a filled page
+cells-small : (n : ℕ) (l : List Bool) → length (readAll (pieces n l)) ≤ 23 * n
+unfolding readAll pieces read
+cells-small zero l = omega arith
+cells-small (suc n) l =
+    let m : length (take 46 l) ≤ 46 = omega (arith, length-take 46 l, min-le-left 46 (length l)) in
+    omega (arith, m, capacity-le false (take 46 l), length-append (read (take 46 l)) (readAll (pieces n (drop 46 l))), cells-small n (drop 46 l))
+
+filled-small : (P : List ℕ) → roomFilled page256 P < 2 ^ 56
+unfolding pageWords
+filled-small P = omega (arith, cells-small 44 (drop 24 (bits P)))
+
+room-small : (P : List ℕ) → roomOf page256 P < 2 ^ 56
+unfolding roomOf
+room-small P = go (eqb (state P) 3)
+  where
+    go : (b : Bool) → cond b (roomFilled page256 P) (capacityAll (pageWords P 44)) < 2 ^ 56
+    go true = filled-small P
+    go false = page-small P
+
+-- the checks of a page without a second record
+state-small : (k : ℕ) (test : List Bool → Bool) (P : List ℕ) (cs : List Check) → Small cs → Small (stateChecks k test page256 P ++ cs)
+state-small k test P cs h = (omega arith, (omega arith, (omega arith, (word-small test P, h))))
 
 second-small : (P : List ℕ) (cs : List Check) → Small cs → Small (secondChecks page256 P ++ cs)
 unfolding secondChecks
@@ -92,21 +113,23 @@ file-small d P out h =
     omega (arith, k .0, k .1, length-file d n P (omega (arith, k .0)))
 
 -- with one check more
-first-one : (P : List ℕ) (b : Bool) (n i : ℕ) → i < 2 ^ 56 → Small (firstChecks page256 P ++ (refuse b n i ∷ []))
-first-one P b n i h = first-small P (refuse b n i ∷ []) (h, tt)
+state-one : (k : ℕ) (test : List Bool → Bool) (P : List ℕ) (b : Bool) (n i : ℕ) → i < 2 ^ 56 → Small (stateChecks k test page256 P ++ (refuse b n i ∷ []))
+state-one k test P b n i h = state-small k test P (refuse b n i ∷ []) (h, tt)
 
 second-one : (P : List ℕ) (b : Bool) (n i : ℕ) → i < 2 ^ 56 → Small (secondChecks page256 P ++ (refuse b n i ∷ []))
 second-one P b n i h = second-small P (refuse b n i ∷ []) (h, tt)
 
 pub page-answers-faithful : PageAnswersFaithful
-unfolding writeFirstChecks firstChecks readFirstChecks rewriteChecks secondChecks readSecondChecks writeFileChecks
+unfolding writeFirstChecks firstChecks readFirstChecks capacityChecks filledChecks writeSecondChecks secondChecks readSecondChecks writeFileChecks
 page-answers-faithful = record {
   write-first = λ P D. taken-apart (writeFirstChecks page256 P D) 0 (omega arith, (omega arith, (omega arith, tt))) (λ n. omega arith);
-  read-first = λ P out. taken-apart (readFirstChecks page256 P out) 0 (first-one P (ltb (length out) 176) 3 0 (omega arith)) (λ n. omega arith);
-  page-capacity = λ P. taken-apart (firstChecks page256 P) _ (first-small P [] tt) (λ n. page-small P);
-  rewrite = λ P R.
-      let room = capacityAll (pageWords P 44) in
-      taken-apart (rewriteChecks page256 P R) 0 (first-one P (ltb room (8 * length R)) 8 room (page-small P)) (λ n. omega arith);
+  read-first = λ P out. taken-apart (readFirstChecks page256 P out) 0 (state-one 1 legal P (ltb (length out) 176) 3 0 (omega arith)) (λ n. omega arith);
+  page-capacity = λ P.
+      taken-apart (capacityChecks page256 P) (roomOf page256 P) (omega arith, (omega arith, (omega arith, (word-small _ P, tt)))) (λ n. room-small P);
+  fill-page = λ P. taken-apart (firstChecks page256 P) 0 (state-small 1 legal P [] tt) (λ n. omega arith);
+  write-second = λ P R.
+      let room = roomFilled page256 P in
+      taken-apart (writeSecondChecks page256 P R) 0 (state-one 3 isFilled P (ltb room (8 * length R)) 8 room (filled-small P)) (λ n. omega arith);
   read-second = λ P out.
       taken-apart (readSecondChecks page256 P out) (byte1 P) (second-one P (ltb (length out) (byte1 P)) 3 0 (omega arith))
       (length-small P (refuse (ltb (length out) (byte1 P)) 3 0 ∷ []));

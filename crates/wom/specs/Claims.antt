@@ -4,8 +4,9 @@ use mathlib.Core.List.{List}
 use Prim.Native.Nat.{ℕ}
 use Rattle.answer.specs.Layout.{Faithful}
 use Rattle.word.specs.Answer.{encodeAnswer, decodeAnswer, fillAnswer, capacityAnswer}
-use Rattle.page.specs.Answer.{writeFirstAnswer, readFirstAnswer, pageCapacityAnswer}
-use Rattle.second.specs.Answer.{rewriteAnswer, readSecondAnswer}
+use Rattle.page.specs.Answer.{writeFirstAnswer, readFirstAnswer}
+use Rattle.filled.specs.Answer.{fillPageAnswer, pageCapacityAnswer}
+use Rattle.second.specs.Answer.{writeSecondAnswer, readSecondAnswer}
 use Rattle.transfer.specs.Answer.{writeFileAnswer}
 
 -- for every argument of each word operation
@@ -20,6 +21,7 @@ pub record PageAnswersFaithful : Type 0 where
   pub write-first : (P D : List ℕ) → Faithful (writeFirstAnswer P D)
   pub read-first : (P out : List ℕ) → Faithful (readFirstAnswer P out)
   pub page-capacity : (P : List ℕ) → Faithful (pageCapacityAnswer P)
-  pub rewrite : (P R : List ℕ) → Faithful (rewriteAnswer P R)
+  pub fill-page : (P : List ℕ) → Faithful (fillPageAnswer P)
+  pub write-second : (P R : List ℕ) → Faithful (writeSecondAnswer P R)
   pub read-second : (P out : List ℕ) → Faithful (readSecondAnswer P out)
   pub write-file : (d : ℕ) (P out : List ℕ) → Faithful (writeFileAnswer d P out)

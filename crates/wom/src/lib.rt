@@ -2,10 +2,11 @@
 //
 // Bits 56 to 63 of an answer are the refusal's number, 0 for none; bits 0 to 55 are the result, or the refusal's index: the word's for 7,
 // the capacity for 8, else 0. Every entry is defined for every argument.
+use filled::PageFilled;
 use page::FirstRead;
 use page::FirstWritten;
-use second::Rewritten;
 use second::SecondRead;
+use second::SecondWritten;
 use transfer::FileWritten;
 use word::Decoded;
 use word::Encoded;
@@ -16,10 +17,11 @@ ghost use Prim.Native.Nat.{_<_};
 ghost use Rattle.answer.specs.Answer.{refusal};
 ghost use Rattle.answer.specs.Layout.{packed};
 ghost use Rattle.word.specs.Answer.{encodeAnswer, decodeAnswer, fillAnswer, capacityAnswer, encodedCode, decodedCode, filledCode, measuredCode};
-ghost use Rattle.page.specs.Answer.{writeFirstAnswer, writeFirstLeaves, readFirstAnswer, readFirstLeaves, pageCapacityAnswer, firstWrittenCode, firstReadCode};
-ghost use Rattle.second.specs.Answer.{rewriteAnswer, rewriteLeaves, readSecondAnswer, readSecondLeaves, rewrittenCode, secondReadCode};
+ghost use Rattle.page.specs.Answer.{writeFirstAnswer, writeFirstLeaves, readFirstAnswer, readFirstLeaves, firstWrittenCode, firstReadCode};
+ghost use Rattle.filled.specs.Answer.{fillPageAnswer, fillPageLeaves, pageCapacityAnswer, pageFilledCode};
+ghost use Rattle.second.specs.Answer.{writeSecondAnswer, writeSecondLeaves, readSecondAnswer, readSecondLeaves, secondWrittenCode, secondReadCode};
 ghost use Rattle.transfer.specs.Answer.{writeFileAnswer, writeFileLeaves, fileWrittenCode};
-ghost use Rattle.page.specs.Answer as pages;
+ghost use Rattle.filled.specs.Answer as pages;
 
 const PAGE_LENGTH: u64 = 1 << 56;
 
@@ -171,46 +173,67 @@ pub extern "C" fn wom_read_first(page: &[u8], out: &mut [u8]) -> u64
     pack_first_read(page::read_first(page, out))
 }
 
-fn pack_page_measured(m: page::Measured) -> u64
+fn pack_page_measured(m: filled::Measured) -> u64
     ensures { λ r. ⌜ r ≡ packed (pages.measuredCode m) ⌝ }
 {
     match m {
-        page::Measured::Capacity(n) => n as u64,
-        page::Measured::PageLength => PAGE_LENGTH,
-        page::Measured::State => STATE,
-        page::Measured::Header => HEADER,
-        page::Measured::Word(i) => with_index(WORD, i),
+        filled::Measured::Capacity(n) => n as u64,
+        filled::Measured::PageLength => PAGE_LENGTH,
+        filled::Measured::State => STATE,
+        filled::Measured::Header => HEADER,
+        filled::Measured::Word(i) => with_index(WORD, i),
     }
 }
 
-// Page capacity: the bits that a first-round page offers, or 1, 5, 6, or 7 with the word's index.
+// Page capacity: the bits that a first-round page or a filled page offers, or 1, 5, 6, or 7 with the word's index.
 #[no_mangle]
 pub extern "C" fn wom_page_capacity(page: &[u8]) -> u64
     ensures { λ r. ⌜ r ≡ packed (pageCapacityAnswer (now (page .entry))) ⌝ }
 {
-    pack_page_measured(page::capacity(page))
+    pack_page_measured(filled::capacity(page))
 }
 
-fn pack_rewritten(w: Rewritten) -> u64
-    ensures { λ r. ⌜ r ≡ packed (rewrittenCode w) ⌝ }
+fn pack_page_filled(f: PageFilled) -> u64
+    ensures { λ r. ⌜ r ≡ packed (pageFilledCode f) ⌝ }
 {
-    match w {
-        Rewritten::Done => 0,
-        Rewritten::PageLength => PAGE_LENGTH,
-        Rewritten::State => STATE,
-        Rewritten::Header => HEADER,
-        Rewritten::Word(i) => with_index(WORD, i),
-        Rewritten::RecordLength(n) => with_index(RECORD_LENGTH, n),
+    match f {
+        PageFilled::Done => 0,
+        PageFilled::PageLength => PAGE_LENGTH,
+        PageFilled::State => STATE,
+        PageFilled::Header => HEADER,
+        PageFilled::Word(i) => with_index(WORD, i),
     }
 }
 
-// Rewrite: 0, or 1, 5, 6, 7 with the word's index, or 8 with the page's capacity.
+// Fill page: 0, or 1, 5, 6, or 7 with the word's index.
 #[no_mangle]
-pub extern "C" fn wom_rewrite(page: &mut [u8], second: &[u8]) -> u64
-    ensures answer { λ r. ⌜ r ≡ packed (rewriteAnswer (now (page .entry)) (now (second .entry))) ⌝ }
-    ensures bytes { λ _. ⌜ now (page .exit) ≡ rewriteLeaves (now (page .entry)) (now (second .entry)) ⌝ }
+pub extern "C" fn wom_fill_page(page: &mut [u8]) -> u64
+    ensures answer { λ r. ⌜ r ≡ packed (fillPageAnswer (now (page .entry))) ⌝ }
+    ensures bytes { λ _. ⌜ now (page .exit) ≡ fillPageLeaves (now (page .entry)) ⌝ }
 {
-    pack_rewritten(second::rewrite(page, second))
+    pack_page_filled(filled::fill_page(page))
+}
+
+fn pack_second_written(w: SecondWritten) -> u64
+    ensures { λ r. ⌜ r ≡ packed (secondWrittenCode w) ⌝ }
+{
+    match w {
+        SecondWritten::Done => 0,
+        SecondWritten::PageLength => PAGE_LENGTH,
+        SecondWritten::State => STATE,
+        SecondWritten::Header => HEADER,
+        SecondWritten::Word(i) => with_index(WORD, i),
+        SecondWritten::RecordLength(n) => with_index(RECORD_LENGTH, n),
+    }
+}
+
+// Write second: 0, or 1, 5, 6, 7 with the word's index, or 8 with the page's capacity.
+#[no_mangle]
+pub extern "C" fn wom_write_second(page: &mut [u8], second: &[u8]) -> u64
+    ensures answer { λ r. ⌜ r ≡ packed (writeSecondAnswer (now (page .entry)) (now (second .entry))) ⌝ }
+    ensures bytes { λ _. ⌜ now (page .exit) ≡ writeSecondLeaves (now (page .entry)) (now (second .entry)) ⌝ }
+{
+    pack_second_written(second::write_second(page, second))
 }
 
 fn pack_second_read(s: SecondRead) -> u64
