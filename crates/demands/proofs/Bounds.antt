@@ -1,9 +1,10 @@
--- The capacity of a first-round page: it is the number of its data cells after the fill, is answered, lies from 660 to 1,012 bits with both
--- ends met, and so 82 bytes always fit. They are demand 3's parts on capacity.
+-- The capacity of a first-round page: it is the number of its data cells after the fill, is answered before and after it, lies from 660 to
+-- 1,012 bits with both ends met, and so 82 bytes always fit. They are demand 3's parts on capacity.
 -- Assumes nothing.
 use mathlib.Core.Bool.{Bool}
 use mathlib.Core.List.{List, [], _∷_}
-use mathlib.Core.Path.{_≡_, refl, sym, ap, ap₂, _∙_}
+use mathlib.Core.Logic.{inl, inr}
+use mathlib.Core.Path.{_≡_, refl, sym, ap, ap₂, _∙_, subst}
 use Prim.Native.Nat.{ℕ, zero, suc, _+_, _*_, _≤_}
 use native.Mathlib.Nat.{suc-mul}
 use native.Mathlib.Omega.{arith}
@@ -15,13 +16,14 @@ use Rattle.word.specs.Word.{sparse, legal}
 use Rattle.word.specs.Fill.{capacity}
 use Rattle.word.specs.Claims.{Legal}
 use Rattle.word.proofs.Claims.{capacity-bounds}
-use Rattle.rows.specs.Page.{Shape, page256, FirstRoundOf, fillAll, capacityAll}
+use Rattle.rows.specs.Page.{Shape, page256, FirstRoundOf, fillAll, capacityAll, filledPage}
 use Rattle.rows.proofs.EachWord.{Each, each-sparse, each-word, each-replicate, row-replicate}
 use Rattle.rows.proofs.Capacities.{capacity-bounds-all}
-use Rattle.page.specs.Answer.{pageCapacityAnswer}
-use Rattle.page.proofs.FirstAnswers.{check-taken}
-use Rattle.demands.specs.Demands.{FirstRound, Fits, dataCellsAll, dataCells}
+use Rattle.filled.specs.Answer.{roomFilled, pageCapacityAnswer}
+use Rattle.filled.proofs.FilledAnswers.{capacity-taken}
+use Rattle.demands.specs.Demands.{FirstRound, Filled, Fits, dataCellsAll, dataCells, filledCells}
 use Rattle.demands.proofs.Laid.{laid, Sound, sound256, laid-row, laid-words, laid-first}
+use Rattle.demands.proofs.FilledPages.{filled-words, filled-filled, filled-room, filled-exactly}
 
 -- of words without neighbours
 capacity-dataCells : (ws : List (List Bool)) → Each sparse ws → capacityAll ws ≡ dataCellsAll (fillAll ws)
@@ -51,11 +53,33 @@ pub capacity-is : (P : List ℕ) → FirstRound P → capacityAll (pageWords P 4
 capacity-is P f = capacity-of P f
 
 pub capacity-counts : (P : List ℕ) → FirstRound P → pageCapacityAnswer P ≡ result (dataCells P)
-capacity-counts P f = check-taken page256 P _ (dataCells P) (f .of-bytes) .1 (f, sym (capacity-is P f))
+capacity-counts P f = capacity-taken page256 P (dataCells P) (f .of-bytes) .1 (inl (f, sym (capacity-is P f)))
+
+-- of a filled page: the fill of P has as many data cells, and each filled page is such a fill
+pub room-of-fill : (P : List ℕ) → FirstRound P → roomFilled page256 (filledPage page256 P) ≡ dataCells P
+room-of-fill P f = filled-room sound256 P f ∙ capacity-is P f
+
+cells-of-fill : (P : List ℕ) → FirstRound P → filledCells (filledPage page256 P) ≡ dataCells P
+cells-of-fill P f = ap dataCellsAll (filled-words sound256 P f)
+
+pub room-is : (F : List ℕ) → Filled F → roomFilled page256 F ≡ filledCells F
+room-is F q =
+    let o = filled-exactly sound256 F .0 q in
+    subst (λ (G : List ℕ). roomFilled page256 G ≡ filledCells G) (o .2) (room-of-fill (o .0) (o .1) ∙ sym (cells-of-fill (o .0) (o .1)))
+
+pub room-stays : (P : List ℕ) → FirstRound P → pageCapacityAnswer (filledPage page256 P) ≡ result (dataCells P)
+room-stays P f =
+    let q = filled-filled sound256 P f in
+    capacity-taken page256 (filledPage page256 P) (dataCells P) (q .of-bytes) .1 (inr (q, sym (room-of-fill P f)))
 
 -- from 660 to 1,012
 pub bounds : (P : List ℕ) → FirstRound P → (660 ≤ dataCells P) × (dataCells P ≤ 1012)
 bounds P f = bounds-of P f sound256
+
+pub least-filled : (F : List ℕ) → Filled F → 660 ≤ roomFilled page256 F
+least-filled F q =
+    let o = filled-exactly sound256 F .0 q in
+    subst (λ (G : List ℕ). 660 ≤ roomFilled page256 G) (o .2) (omega (arith, room-of-fill (o .0) (o .1), bounds (o .0) (o .1)))
 
 -- one word, n times
 pub capacity-replicate : (n : ℕ) (w : List Bool) → capacityAll (replicate n w) ≡ n * capacity w

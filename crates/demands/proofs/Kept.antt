@@ -1,4 +1,4 @@
--- Cells that are kept: over words with second bits, and over a page that is rewritten.
+-- Cells that are kept: over words that are filled and over filled words with second bits, and over pages of them.
 -- Assumes nothing.
 use mathlib.Core.Bool.{Bool, false}
 use mathlib.Core.List.{List, [], _∷_, _++_}
@@ -14,44 +14,59 @@ use Rattle.window.specs.Words.{join}
 use Rattle.window.proofs.Words.{length-join}
 use Rattle.word.specs.Word.{sparse}
 use Rattle.word.specs.Fill.{fill, read, put}
-use Rattle.word.proofs.Claims.{second-bits-kept}
+use Rattle.word.proofs.Claims.{fill-leaves-no-room, second-bits-kept}
 use Rattle.word.proofs.Filling.{length-fill}
 use Rattle.word.proofs.SecondBits.{length-put}
 use Rattle.rows.specs.Page.{Shape, fillAll, putAll}
 use Rattle.rows.proofs.EachWord.{Each, Row}
-use Rattle.rows.proofs.SecondWords.{row-rewritten}
 use Rattle.demands.proofs.Laid.{Sound, laid, laid-bits}
 
-kept-putAll : (ws : List (List Bool)) (l : List Bool) → Each sparse ws → T (kept (join ws) (join (putAll (fillAll ws) l)))
-unfolding join putAll fillAll kept put fill
+-- ---- words
+
+pub kept-fillAll : (ws : List (List Bool)) → T (kept (join ws) (join (fillAll ws)))
+unfolding join fillAll kept fill
+kept-fillAll [] = tt
+kept-fillAll (w ∷ ws) =
+    kept-append w (join ws) (fill w) (join (fillAll ws)) (sym (length-fill false w)) (fill-leaves-no-room .keeps w) (kept-fillAll ws)
+
+pub kept-putAll : (ws : List (List Bool)) (l : List Bool) → Each sparse ws → T (kept (join (fillAll ws)) (join (putAll (fillAll ws) l)))
+unfolding join putAll fillAll kept put
 kept-putAll [] l h = tt
 kept-putAll (w ∷ ws) l h =
     let r = drop (length (read (fill w))) l in
-    kept-append w (join ws) (put (fill w) l) (join (putAll (fillAll ws) r))
-    (sym (length-put false (fill w) l ∙ length-fill false w))
-    (second-bits-kept .keeps-first w l (h .0))
+    kept-append (fill w) (join (fillAll ws)) (put (fill w) l) (join (putAll (fillAll ws) r))
+    (sym (length-put false (fill w) l))
+    (second-bits-kept .keeps-filled w l (h .0))
     (kept-putAll ws r (h .1))
 
--- state 01 becomes state 07, and byte 1, which is 0, any byte
-kept-header : (k : ℕ) → T (kept (bits (1 ∷ 0 ∷ 0 ∷ [])) (bits (7 ∷ k ∷ 0 ∷ [])))
+-- ---- headers: state 01 becomes 03, then 07, and byte 1, which is 0, any byte
+
+abbrev Header : ℕ → ℕ → List ℕ
+Header a k = a ∷ k ∷ 0 ∷ []
+
+pub header-filled : T (kept (bits (Header 1 0)) (bits (Header 3 0)))
 unfolding kept bits cells bit first rest
-kept-header k = tt
+header-filled = tt
 
-same-length : (k : ℕ) → length (bits (1 ∷ 0 ∷ 0 ∷ [])) ≡ length (bits (7 ∷ k ∷ 0 ∷ []))
+pub header-second : (k : ℕ) → T (kept (bits (Header 3 0)) (bits (Header 7 k)))
+unfolding kept bits cells bit first rest
+header-second k = tt
+
+same-length : (a b k : ℕ) → length (bits (Header a 0)) ≡ length (bits (Header b k))
 unfolding bits cells
-same-length k = refl
+same-length a b k = refl
 
-pub kept-laid : {σ : Shape} → Sound σ → (k : ℕ) (ws : List (List Bool)) (l : List Bool) (t : List ℕ)
-    → Row (σ .words) ws → Each sparse ws
-    → T (kept (bits (laid 1 0 0 ws t)) (bits (laid 7 k 0 (putAll (fillAll ws) l) t)))
-kept-laid {σ} f k ws l t r h =
-    let vs = putAll (fillAll ws) l in
-    let s : Row (σ .words) vs = row-rewritten (σ .words) ws l r in
-    rw (laid-bits f 1 0 0 ws r t, laid-bits f 7 k 0 vs s t)
-    (kept-append (bits (1 ∷ 0 ∷ 0 ∷ [])) (join ws ++ bits t) (bits (7 ∷ k ∷ 0 ∷ [])) (join vs ++ bits t)
-    (same-length k)
-    (kept-header k)
+-- ---- pages
+
+pub kept-laid : {σ : Shape} → Sound σ → (a b k : ℕ) (ws vs : List (List Bool)) (t : List ℕ) → Row (σ .words) ws → Row (σ .words) vs
+    → T (kept (bits (Header a 0)) (bits (Header b k))) → T (kept (join ws) (join vs))
+    → T (kept (bits (laid a 0 0 ws t)) (bits (laid b k 0 vs t)))
+kept-laid {σ} f a b k ws vs t r s h j =
+    rw (laid-bits f a 0 0 ws r t, laid-bits f b k 0 vs s t)
+    (kept-append (bits (Header a 0)) (join ws ++ bits t) (bits (Header b k)) (join vs ++ bits t)
+    (same-length a b k)
+    h
     (kept-append (join ws) (bits t) (join vs) (bits t)
     (omega (arith, length-join ws (r .1), length-join vs (s .1), r .0, s .0))
-    (kept-putAll ws l h)
+    j
     (kept-self (bits t))))

@@ -1,4 +1,5 @@
--- A page as its first three bytes, its words and the bytes after them, over any sound shape of page: what such a page holds, that each page is one, and that both writings leave one.
+-- A page as its first three bytes, its words and the bytes after them, over any sound shape of page: what such a page holds, that each page
+-- is one, and that each writing leaves one.
 -- Assumes nothing.
 use mathlib.Core.Bool.{Bool}
 use mathlib.Core.List.{List, [], _∷_, _++_}
@@ -12,10 +13,11 @@ use Rattle.cells.proofs.Bytes.{length-bytes, Bytes-drop}
 use Rattle.window.specs.Words.{join, pageWords, putWords, pageOf}
 use Rattle.window.proofs.Words.{putWords-all, putWords-own, bits-pageOf, length-pageOf, Bytes-pageOf, pageWords-pageOf}
 use Rattle.word.specs.Word.{legal}
-use Rattle.rows.specs.Page.{page256, Shape, state, byte1, byte2, firstWords, firstPage, fillAll, putAll, outcomeOf, FirstRoundOf}
+use Rattle.word.specs.Fill.{isFilled}
+use Rattle.rows.specs.Page.{page256, Shape, state, byte1, byte2, firstWords, firstPage, fillAll, putAll, outcomeOf, filledPage, secondPage, FirstRoundOf, FilledOf}
 use Rattle.rows.proofs.EachWord.{Each, word-each, Row, row-page}
 use Rattle.rows.proofs.FirstRecord.{row-firstWords}
-use Rattle.rows.proofs.SecondWords.{row-rewritten}
+use Rattle.rows.proofs.SecondWords.{row-fillAll, row-putAll}
 
 -- the page of these three bytes, words and last bytes
 abbrev pub laid : ℕ → ℕ → ℕ → List (List Bool) → List ℕ → List ℕ
@@ -28,7 +30,7 @@ tail m page = drop m (drop 3 page)
 pub tail-none : (m : ℕ) (page : List ℕ) → length page ≤ 3 + m → tail m page ≡ []
 tail-none m page h = drop-drop m 3 page ∙ drop-of-length-le page h
 
--- the words after a rewrite
+-- the words after the fill and a second record
 abbrev pub rewritten : ℕ → List ℕ → List ℕ → List (List Bool)
 rewritten n page bs = putAll (fillAll (pageWords page n)) (bits bs)
 
@@ -80,22 +82,41 @@ module _ {σ : Shape} (f : Sound σ) where
     unfolding pageOf
     laid-tail = drop-at (bytes (46 * length ws / 8) (join ws)) t m (omega (arith, length-bytes (46 * length ws / 8) (join ws), whole-row ws r))
 
+  Bytes-laid : (a : ℕ) (ws : List (List Bool)) (t : List ℕ) → a < 256 → Row n ws → Bytes t → Bytes (laid a 0 0 ws t)
+  Bytes-laid a ws t ha r b =
+      Bytes-pageOf ws m (r .1) (whole-row ws r) (a ∷ 0 ∷ 0 ∷ []) t
+      (Bytes-three a 0 0 [] ha (omega arith) (omega arith) (λ i. omega arith)) b
+
   -- legal words after the bytes 1, 0, 0 are a first-round page
   pub laid-first : (ws : List (List Bool)) (t : List ℕ) → Row n ws → Each legal ws → Bytes t → 3 + (m + length t) ≡ σ .size
       → FirstRoundOf σ (laid 1 0 0 ws t)
   unfolding pageOf
   laid-first ws t r h b s = record {
     sized = laid-length 1 0 0 ws r t ∙ s;
-    of-bytes =
-        Bytes-pageOf ws m (r .1) (whole-row ws r) (1 ∷ 0 ∷ 0 ∷ []) t
-        (Bytes-three 1 0 0 [] (omega arith) (omega arith) (omega arith) (λ i. omega arith)) b;
+    of-bytes = Bytes-laid 1 ws t (omega arith) r b;
     in-state = refl;
     byte1-zero = refl;
     byte2-zero = refl;
     words-legal = word-each legal (laid 1 0 0 ws t) n ws (laid-words 1 0 0 ws r t) h;
   }
 
+  -- filled words after the bytes 3, 0, 0 are a filled page
+  pub laid-filled : (ws : List (List Bool)) (t : List ℕ) → Row n ws → Each isFilled ws → Bytes t → 3 + (m + length t) ≡ σ .size
+      → FilledOf σ (laid 3 0 0 ws t)
+  unfolding pageOf
+  laid-filled ws t r h b s = record {
+    sized = laid-length 3 0 0 ws r t ∙ s;
+    of-bytes = Bytes-laid 3 ws t (omega arith) r b;
+    in-state = refl;
+    byte1-zero = refl;
+    byte2-zero = refl;
+    words-filled = word-each isFilled (laid 3 0 0 ws t) n ws (laid-words 3 0 0 ws r t) h;
+  }
+
   -- ---- each page is one, and stays one
+
+  pub row-rewritten : (ws : List (List Bool)) (l : List Bool) → Row n ws → Row n (putAll (fillAll ws) l)
+  row-rewritten ws l r = row-putAll n (fillAll ws) l (row-fillAll n ws r)
 
   pub laid-row : (page : List ℕ) → length page ≡ σ .size → Row n (pageWords page n)
   laid-row page l = row-page page n (omega arith)
@@ -121,20 +142,38 @@ module _ {σ : Shape} (f : Sound σ) where
         (sym (drop-cons page 0 0 (omega arith) ∙ ap (λ (x : List ℕ). state page ∷ x) (drop-cons page 1 0 (omega arith))))
         ∙ putWords-own page n hp (omega arith)
 
+    -- the state and the words replaced
+    laid-state : (a : ℕ) (ws : List (List Bool)) → a < 256 → Row n ws
+        → putWords (a ∷ drop 1 page) ws ≡ laid a (byte1 page) (byte2 page) ws (tail m page)
+    laid-state a ws ha r =
+        ap (λ (x : List ℕ). putWords (a ∷ x) ws) (drop-cons page 1 0 (omega arith)) ∙ laid-put a (byte1 page) ws ha (hp 1) r
+
     -- a first record written
     pub laid-firstPage : (bs : List ℕ) → firstPage σ page bs ≡ laid 1 (byte1 page) (byte2 page) (firstWords n bs) (tail m page)
     unfolding firstPage
-    laid-firstPage bs =
-        ap (λ (x : List ℕ). putWords (1 ∷ x) (firstWords n bs)) (drop-cons page 1 0 (omega arith))
-        ∙ laid-put 1 (byte1 page) (firstWords n bs) (omega arith) (hp 1) (row-firstWords n bs)
+    laid-firstPage bs = laid-state 1 (firstWords n bs) (omega arith) (row-firstWords n bs)
 
-    -- a record written over it
+    -- the fill
+    pub laid-filledPage : filledPage σ page ≡ laid 3 (byte1 page) (byte2 page) (fillAll (pageWords page n)) (tail m page)
+    unfolding filledPage
+    laid-filledPage = laid-state 3 (fillAll (pageWords page n)) (omega arith) (row-fillAll n (pageWords page n) (laid-row page l))
+
+    -- a record written over the words as they are, and over the filled words
+    pub laid-secondPage : (bs : List ℕ) → length bs < 256
+        → secondPage σ page bs ≡ laid 7 (length bs) (byte2 page) (putAll (pageWords page n) (bits bs)) (tail m page)
+    unfolding secondPage
+    laid-secondPage bs s =
+        laid-put 7 (length bs) (putAll (pageWords page n) (bits bs)) (omega arith) s (row-putAll n (pageWords page n) (bits bs) (laid-row page l))
+
     pub laid-outcome : (bs : List ℕ) → length bs < 256
         → outcomeOf σ page bs ≡ laid 7 (length bs) (byte2 page) (rewritten n page bs) (tail m page)
     unfolding outcomeOf
-    laid-outcome bs s =
-        laid-put 7 (length bs) (rewritten n page bs) (omega arith) s (row-rewritten n (pageWords page n) (bits bs) (laid-row page l))
+    laid-outcome bs s = laid-put 7 (length bs) (rewritten n page bs) (omega arith) s (row-rewritten (pageWords page n) (bits bs) (laid-row page l))
 
   -- a first-round page, by its words
   pub laid-round : (P : List ℕ) → FirstRoundOf σ P → laid 1 0 0 (pageWords P n) (tail m P) ≡ P
   laid-round P p = rw (p .in-state, p .byte1-zero, p .byte2-zero) at (laid-own P (p .of-bytes) (p .sized))
+
+  -- a filled page likewise
+  pub laid-round-filled : (F : List ℕ) → FilledOf σ F → laid 3 0 0 (pageWords F n) (tail m F) ≡ F
+  laid-round-filled F p = rw (p .in-state, p .byte1-zero, p .byte2-zero) at (laid-own F (p .of-bytes) (p .sized))

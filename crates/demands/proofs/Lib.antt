@@ -4,5 +4,6 @@ pub mod Laid
 pub mod Kept
 pub mod FirstPages
 pub mod TwiceWritten
+pub mod FilledPages
 pub mod Bounds
 pub mod Demands

@@ -1,5 +1,5 @@
 -- Pages that are twice written, over any sound shape of page: the outcome of a record that fits a first-round page is a second-round page, every
--- second-round page is such an outcome, the record is read back from it, no cell is cleared, and different records leave different bytes.
+-- second-round page is such an outcome, the record is read back from it, and different records leave different bytes.
 -- Assumes nothing.
 use mathlib.Core.Bool.{Bool, true, false}
 use mathlib.Core.List.{List, [], _∷_}
@@ -10,21 +10,19 @@ use native.Mathlib.Omega.{arith}
 use borrow.Author.Tests.{eqb-true, eqb-false}
 use lib.Dec.{T, eqb}
 use lib.ListN.{length, drop, getD}
-use Rattle.cells.specs.Cells.{bit, kept, fit, someSet}
+use Rattle.cells.specs.Cells.{fit, someSet}
 use Rattle.cells.specs.Bytes.{bits, bytes, Bytes}
 use Rattle.cells.proofs.Bytes.{length-bits, length-bytes, Bytes-bytes, Bytes-drop}
 use Rattle.cells.proofs.Fits.{length-fit, someSet-fit, bits-front, bytes-fit}
-use Rattle.cells.proofs.Kept.{kept-bits}
 use Rattle.window.specs.Words.{pageWords, putWords, pageOf}
 use Rattle.word.specs.Word.{legal}
 use Rattle.word.specs.Fill.{wellFormed}
 use Rattle.rows.specs.Page.{Shape, state, byte1, byte2, fillAll, capacityAll, readAll, putAll, outcomeOf, secondRecord, FirstRoundOf, SecondRoundOf, FitsOf}
 use Rattle.rows.proofs.EachWord.{Each, each-sparse, each-word, word-each, Row}
 use Rattle.rows.proofs.Capacities.{capacity-bounds-all}
-use Rattle.rows.proofs.SecondWords.{row-rewritten, read-back, putAll-spare}
-use Rattle.demands.proofs.Laid.{wordBytes, Sound, laid, tail, rewritten, laid-words, laid-length, laid-tail, laid-first, laid-row, length-tail, laid-own, laid-outcome, laid-round}
+use Rattle.rows.proofs.SecondWords.{read-back, putAll-spare}
+use Rattle.demands.proofs.Laid.{wordBytes, Sound, laid, tail, rewritten, laid-words, laid-length, laid-tail, laid-first, laid-row, row-rewritten, length-tail, laid-own, laid-outcome}
 use Rattle.demands.proofs.Origins.{formed-putAll, Origin, origins}
-use Rattle.demands.proofs.Kept.{kept-laid}
 
 -- lists of the same length that differ do so at an index
 differ-at : (a b : List ℕ) → length a ≡ length b → (a ≡ b → ⊥) → (i : ℕ) × (i < length a) × (getD a i 0 ≡ getD b i 0 → ⊥)
@@ -56,14 +54,14 @@ module _ {σ : Shape} (f : Sound σ) where
     legal-of : Each legal (pageWords P n)
     legal-of = each-word legal P n (p .words-legal)
 
-    most-bytes : length R ≤ σ .secondBytes
+    pub most-bytes : length R ≤ σ .secondBytes
     most-bytes = omega (arith, capacity-bounds-all (pageWords P n) (row-of .1) legal-of, row-of .0)
 
-    outcome-is : outcomeOf σ P R ≡ laid 7 (length R) 0 (rewritten n P R) (tail m P)
+    pub outcome-is : outcomeOf σ P R ≡ laid 7 (length R) 0 (rewritten n P R) (tail m P)
     outcome-is = rw (p .byte2-zero) at (laid-outcome f P (p .of-bytes) (p .sized) R (omega (arith, most-bytes)))
 
-    outcome-row : Row n (rewritten n P R)
-    outcome-row = row-rewritten n (pageWords P n) (bits R) row-of
+    pub outcome-row : Row n (rewritten n P R)
+    outcome-row = row-rewritten f (pageWords P n) (bits R) row-of
 
     outcome-words : pageWords (outcomeOf σ P R) n ≡ rewritten n P R
     outcome-words =
@@ -112,14 +110,6 @@ module _ {σ : Shape} (f : Sound σ) where
               ap₂ (λ (k : ℕ) (l : List Bool). someSet (drop (8 * k) l)) length-back outcome-cells
               ∙ someSet-fit c (8 * length R) (bits R) (omega (arith, length-bits R));
         }
-
-    -- no cell is cleared
-    pub no-cell-cleared : (i b : ℕ) → T (bit (getD P i 0) b) → T (bit (getD (outcomeOf σ P R) i 0) b)
-    no-cell-cleared =
-        kept-bits P (outcomeOf σ P R) (p .sized ∙ sym outcome-sized) (p .of-bytes)
-        (rw outcome-is (subst (λ (Q : List ℕ). T (kept (bits Q) (bits (laid 7 (length R) 0 (rewritten n P R) (tail m P)))))
-        (laid-round f P p)
-        (kept-laid f (length R) (pageWords P n) (bits R) (tail m P) row-of (each-sparse (pageWords P n) legal-of))))
 
   -- different records leave different bytes
   pub differ : (P Q R S : List ℕ) → FirstRoundOf σ P → FirstRoundOf σ Q → FitsOf σ R P → FitsOf σ S Q → (R ≡ S → ⊥)

@@ -1,0 +1,157 @@
+-- Filled pages, over any sound shape of page: the fill of a first-round page is a filled page, every filled page is such a fill, a record
+-- written over it gives the outcome over the first-round page, and neither writing clears a cell.
+-- Assumes nothing.
+use mathlib.Core.Bool.{Bool, false}
+use mathlib.Core.List.{List, [], _∷_}
+use mathlib.Core.Logic.{_↔_}
+use mathlib.Core.Path.{_≡_, refl, sym, ap, ap₂, _∙_, subst}
+use Prim.Native.Nat.{ℕ, suc, _<_}
+use native.Mathlib.Omega.{arith}
+use lib.Dec.{T}
+use lib.ListN.{length, drop, getD}
+use Rattle.cells.specs.Cells.{bit, kept}
+use Rattle.cells.specs.Bytes.{bits, Bytes}
+use Rattle.cells.proofs.Bytes.{Bytes-drop}
+use Rattle.cells.proofs.Kept.{kept-bits}
+use Rattle.window.specs.Words.{join, pageWords, Words, pageOf}
+use Rattle.word.specs.Word.{legal}
+use Rattle.word.specs.Fill.{fill, isFilled}
+use Rattle.word.specs.Claims.{Legal}
+use Rattle.word.proofs.Claims.{well-formed-words}
+use Rattle.word.proofs.Filling.{length-fill}
+use Rattle.rows.specs.Page.{Shape, fillAll, capacityAll, readAll, putAll, outcomeOf, filledPage, secondPage, FirstRoundOf, FilledOf, FitsOf}
+use Rattle.rows.proofs.EachWord.{Each, each-sparse, each-word, Row}
+use Rattle.rows.proofs.SecondWords.{capacity-count, row-fillAll}
+use Rattle.filled.specs.Answer.{roomFilled}
+use Rattle.demands.proofs.Laid.{wordBytes, Sound, laid, tail, rewritten, laid-words, laid-tail, laid-first, laid-filled, laid-row, length-tail, laid-round, laid-round-filled, laid-filledPage, laid-secondPage}
+use Rattle.demands.proofs.Kept.{kept-fillAll, kept-putAll, header-filled, header-second, kept-laid}
+use Rattle.demands.proofs.TwiceWritten.{most-bytes, outcome-is, outcome-row, outcome-sized}
+
+-- ---- words
+
+-- legal words filled are filled
+filled-fill : (w : List Bool) → Legal w → T (isFilled (fill w))
+unfolding fill
+filled-fill w h = well-formed-words .filled-from (fill w) (length-fill false w ∙ h .0) .1 (w, h, refl)
+
+filled-fillAll : (ws : List (List Bool)) → Words ws → Each legal ws → Each isFilled (fillAll ws)
+unfolding fillAll
+filled-fillAll [] h t = tt
+filled-fillAll (w ∷ ws) h t = (filled-fill w (h .0, t .0), filled-fillAll ws (h .1) (t .1))
+
+-- and filled words come from legal words
+pub record Origin (ws us : List (List Bool)) : Type 0 where
+  pub row : Row (length ws) us
+  pub all-legal : Each legal us
+  pub filled-again : fillAll us ≡ ws
+
+origins : (ws : List (List Bool)) → Words ws → Each isFilled ws → (us : List (List Bool)) × Origin ws us
+unfolding fillAll
+origins [] h t = ([], record { row = (refl, tt); all-legal = tt; filled-again = refl })
+origins (w ∷ ws) h t =
+    let u = well-formed-words .filled-from w (h .0) .0 (t .0) in
+    let o = origins ws (h .1) (t .1) in
+    let q = o .1 in (
+      u .0 ∷ o .0,
+      record {
+        row = (ap suc (q .row .0), (u .1 .0, q .row .1));
+        all-legal = (u .1 .1, q .all-legal);
+        filled-again = ap₂ (λ (x : List Bool) (r : List (List Bool)). x ∷ r) (sym (u .2)) (q .filled-again);
+      },
+    )
+
+-- ---- pages
+
+module _ {σ : Shape} (f : Sound σ) where
+  abbrev n : ℕ
+  n = σ .words
+
+  abbrev m : ℕ
+  m = wordBytes σ
+
+  module _ (P : List ℕ) (p : FirstRoundOf σ P) where
+    abbrev words : List (List Bool)
+    words = pageWords P n
+
+    row-of : Row n words
+    row-of = laid-row f P (p .sized)
+
+    row-filled : Row n (fillAll words)
+    row-filled = row-fillAll n words row-of
+
+    legal-of : Each legal words
+    legal-of = each-word legal P n (p .words-legal)
+
+    filled-is : filledPage σ P ≡ laid 3 0 0 (fillAll words) (tail m P)
+    filled-is = rw (p .byte1-zero, p .byte2-zero) at (laid-filledPage f P (p .of-bytes) (p .sized))
+
+    pub filled-words : pageWords (filledPage σ P) n ≡ fillAll words
+    filled-words = ap (λ (F : List ℕ). pageWords F n) filled-is ∙ laid-words f 3 0 0 (fillAll words) row-filled (tail m P)
+
+    filled-tail : tail m (filledPage σ P) ≡ tail m P
+    filled-tail = ap (tail m) filled-is ∙ laid-tail f 3 0 0 (fillAll words) row-filled (tail m P)
+
+    pub filled-filled : FilledOf σ (filledPage σ P)
+    filled-filled =
+        rw filled-is
+        (laid-filled f (fillAll words) (tail m P) row-filled (filled-fillAll words (row-of .1) legal-of)
+        (Bytes-drop m (drop 3 P) (Bytes-drop 3 P (p .of-bytes))) (length-tail f P (p .sized)))
+
+    -- its data cells are those that the capacity counts
+    pub filled-room : roomFilled σ (filledPage σ P) ≡ capacityAll words
+    filled-room = ap (λ (ws : List (List Bool)). length (readAll ws)) filled-words ∙ sym (capacity-count words)
+
+    -- no cell is cleared
+    pub fill-clears-none : (i b : ℕ) → T (bit (getD P i 0) b) → T (bit (getD (filledPage σ P) i 0) b)
+    fill-clears-none =
+        kept-bits P (filledPage σ P) (p .sized ∙ sym (filled-filled .sized)) (p .of-bytes)
+        (rw filled-is (subst (λ (Q : List ℕ). T (kept (bits Q) (bits (laid 3 0 0 (fillAll words) (tail m P)))))
+        (laid-round f P p)
+        (kept-laid f 1 3 0 words (fillAll words) (tail m P) row-of row-filled header-filled (kept-fillAll words))))
+
+    module _ (R : List ℕ) (r : FitsOf σ R P) where
+      -- the two writings together give the outcome
+      pub second-filled : secondPage σ (filledPage σ P) R ≡ outcomeOf σ P R
+      second-filled =
+          let F = filledPage σ P in
+          let q = filled-filled in
+          let s : length R < 256 = omega (arith, most-bytes f P R p r, f .one-byte) in
+          (rw (q .byte2-zero) at (laid-secondPage f F (q .of-bytes) (q .sized) R s))
+          ∙ ap₂ (λ (ws : List (List Bool)) (t : List ℕ). laid 7 (length R) 0 (putAll ws (bits R)) t) filled-words filled-tail
+          ∙ sym (outcome-is f P R p r)
+
+      -- no cell is cleared
+      pub writing-clears-none : (i b : ℕ) → T (bit (getD (filledPage σ P) i 0) b) → T (bit (getD (outcomeOf σ P R) i 0) b)
+      writing-clears-none =
+          kept-bits (filledPage σ P) (outcomeOf σ P R) (filled-filled .sized ∙ sym (outcome-sized f P R p r)) (filled-filled .of-bytes)
+          (rw (filled-is, outcome-is f P R p r)
+          (kept-laid f 3 7 (length R) (fillAll words) (rewritten n P R) (tail m P) row-filled (outcome-row f P R p r) (header-second (length R))
+          (kept-putAll words (bits R) (each-sparse words legal-of))))
+
+  -- ---- a filled page is the fill of a first-round page
+
+  module _ (F : List ℕ) (q : FilledOf σ F) (us : List (List Bool)) (o : Origin (pageWords F n) us) where
+    row-us : Row n us
+    row-us = (o .row .0 ∙ laid-row f F (q .sized) .0, o .row .1)
+
+    abbrev first-of : List ℕ
+    first-of = laid 1 0 0 us (tail m F)
+
+    first-round-of : FirstRoundOf σ first-of
+    first-round-of =
+        laid-first f us (tail m F) row-us (o .all-legal) (Bytes-drop m (drop 3 F) (Bytes-drop 3 F (q .of-bytes))) (length-tail f F (q .sized))
+
+    filled-of : filledPage σ first-of ≡ F
+    filled-of =
+        filled-is first-of first-round-of
+        ∙ ap₂ (λ (ws : List (List Bool)) (t : List ℕ). laid 3 0 0 ws t)
+        (ap fillAll (laid-words f 1 0 0 us row-us (tail m F)) ∙ o .filled-again) (laid-tail f 1 0 0 us row-us (tail m F))
+        ∙ laid-round-filled f F q
+
+  pub filled-exactly : (F : List ℕ) → FilledOf σ F ↔ ((P : List ℕ) × FirstRoundOf σ P × (filledPage σ P ≡ F))
+  filled-exactly F = (
+    λ q.
+        let o = origins (pageWords F n) (laid-row f F (q .sized) .1) (each-word isFilled F n (q .words-filled)) in
+        (first-of F q (o .0) (o .1), first-round-of F q (o .0) (o .1), filled-of F q (o .0) (o .1)),
+    λ h. subst (FilledOf σ) (h .2) (filled-filled (h .0) (h .1)),
+  )
