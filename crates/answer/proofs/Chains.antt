@@ -6,7 +6,7 @@ use mathlib.Core.Logic.{_↔_}
 use mathlib.Core.Path.{_≡_, refl, sym, ap, _∙_, subst}
 use Prim.Native.Nat.{ℕ, _^_, _<_}
 use native.Mathlib.Omega.{arith}
-use borrow.Author.Tests.{eq-eqb, eqb-true}
+use borrow.Author.Tests.{eq-eqb, ne-eqb, eqb-true}
 use lib.Dec.{T, eqb}
 use lib.ListN.{length, drop}
 use Rattle.cells.specs.Bytes.{atStart}
@@ -57,6 +57,11 @@ listed (refuse false m j ∷ cs) x n i e = right (eqb n m) (among n (numbers cs)
 
 pub no-other : (cs : List Check) (x : ℕ) → RefusesBy (numbers cs) (answer cs x)
 no-other cs x = record { listed = listed cs x }
+
+-- a number that is not the first of a list
+pub among-others : (n m : ℕ) (ms : List ℕ) → ¬ (n ≡ m) → T (among n (m ∷ ms)) → T (among n ms)
+unfolding among
+among-others n m ms h t = rw (ne-eqb n m h) at t
 
 -- each number of a list is among others
 abbrev pub Within : List ℕ → List ℕ → Type 0

@@ -1,26 +1,28 @@
 -- The claims of specs/Claims.antt.
 -- Assumes nothing.
 use mathlib.Core.Bool.{true}
-use mathlib.Core.List.{List, _++_}
+use mathlib.Core.List.{List, [], _∷_, _++_}
 use mathlib.Core.Logic.{_↔_, inl, inr, ⊎-elim}
 use mathlib.Core.Path.{_≡_, refl, sym, ap, _∙_}
 use Prim.Native.Nat.{ℕ, suc, _≤_}
 use native.Mathlib.Omega.{arith}
 use borrow.Author.Tests.{le-ltb}
-use lib.Dec.{ltb}
+use lib.Dec.{T, ltb}
 use lib.ListN.{length, replicate}
 use Rattle.cells.specs.Cells.{first, number, bit, cells}
 use Rattle.cells.specs.Bytes.{bits, Bytes}
 use Rattle.answer.specs.Answer.{Answer, result, refusal, among}
-use Rattle.answer.proofs.Chains.{last-passed, same-refusal}
+use Rattle.answer.proofs.Chains.{last-passed, same-refusal, among-others}
 use Rattle.window.specs.Words.{pageWords}
 use Rattle.word.specs.Word.{seriesFrom, weight, zeckendorf}
 use Rattle.word.specs.Fill.{fillFrom, fill, readFrom, read, capacity}
 use Rattle.rows.specs.Page.{state, byte1, blankOf, firstWords, firstPage, capacityAll, page256}
-use Rattle.page.specs.Answer.{firstChecks, readFirstChecks, readFirstAnswer, pageCapacityAnswer}
+use Rattle.page.specs.Answer.{firstChecks, readFirstChecks, readFirstAnswer}
+use Rattle.filled.specs.Answer.{pageCapacityAnswer}
+use Rattle.filled.proofs.FilledAnswers.{as-first}
 use Rattle.second.specs.Answer.{readSecondAnswer}
 use Rattle.second.proofs.SecondAnswers.{read-second, read-second-1, read-second-5}
-use Rattle.demands.specs.Demands.{blank, Sized, FirstRound, SecondRound, dataCells}
+use Rattle.demands.specs.Demands.{blank, Sized, FirstRound, Filled as FilledPage, SecondRound, dataCells, filledCells}
 use Rattle.demands.proofs.Bounds.{capacity-is}
 use Rattle.demands.proofs.Demands.{demand1, demand3}
 use Rattle.demands.proofs.FirstPages.{first-written, words-written}
@@ -29,11 +31,11 @@ use Rattle.report.specs.Kinds.{kindBy, kindOf}
 use Rattle.report.specs.Lines.{ascii, digits, decimal, lineOf}
 use Rattle.report.specs.Listing.{listingOf}
 use Rattle.report.specs.Claims.{KindsExact, LinesRight, ListingRight}
-use Rattle.report.proofs.Deciding.{kind-not-sized, kind-00, kind-01, kind-07, kind-unknown, WhyBad, not-sized, not-blank, unknown, first-bad, second-bad, blank-or-bad, kind-why, second-fits, bad-among}
+use Rattle.report.proofs.Deciding.{kind-not-sized, kind-00, kind-01, kind-03, kind-07, kind-unknown, WhyBad, not-sized, not-blank, unknown, open-bad, second-bad, blank-or-bad, kind-why, second-fits, bad-among}
 use Rattle.report.proofs.Decimals.{decimal-value, decimal-digit, decimal-first}
 use Rattle.report.proofs.Listings.{listing-none, listing-page, listing-last, listing-most, turns-listing}
 use Rattle.report.specs.declared.Kind.{Kind}
-use Rattle.report.specs.declared.Kind.the-variants.{Blank, First, Second, Bad}
+use Rattle.report.specs.declared.Kind.the-variants.{Blank, First, Filled, Second, Bad}
 
 -- ---- kinds
 
@@ -49,8 +51,19 @@ blank-kind = kind-00 blank blank-sized refl ∙ ⊎-elim (λ h. h .1) (λ h. abs
 -- `first` is what page capacity accepts
 first-page : (P : List ℕ) (c : ℕ) → Bytes P → (kindOf P ≡ First c) ↔ (FirstRound P × (c ≡ dataCells P))
 first-page P c b = (
-  λ e. demand1 .page-capacity P c b .0 (kind-why P (First c) e),
-  λ h. kind-01 P (h .0 .sized) (h .0 .in-state) ∙ ap (kindBy First) (demand1 .page-capacity P c b .1 h),
+  λ e.
+      let w = kind-why P (First c) e in
+      ⊎-elim (λ h. h) (λ h. absurd (omega (arith, w .0, h .0 .in-state))) (demand1 .page-capacity P c b .0 (w .1)),
+  λ h. kind-01 P (h .0 .sized) (h .0 .in-state) ∙ ap (kindBy First) (demand1 .page-capacity P c b .1 (inl h)),
+)
+
+-- and `filled` too
+filled-page : (P : List ℕ) (c : ℕ) → Bytes P → (kindOf P ≡ Filled c) ↔ (FilledPage P × (c ≡ filledCells P))
+filled-page P c b = (
+  λ e.
+      let w = kind-why P (Filled c) e in
+      ⊎-elim (λ h. absurd (omega (arith, w .0, h .0 .in-state))) (λ h. h) (demand1 .page-capacity P c b .0 (w .1)),
+  λ h. kind-03 P (h .0 .sized) (h .0 .in-state) ∙ ap (kindBy Filled) (demand1 .page-capacity P c b .1 (inr h)),
 )
 
 -- `second` is what read second accepts, since every record fits its output
@@ -67,8 +80,8 @@ second-page P n b = (
 why-1 : (P : List ℕ) → WhyBad P 1 → ¬ Sized P
 why-1 P (not-sized _ h) = h
 why-1 P (not-blank e _ _ _) = absurd (omega arith)
-why-1 P (unknown e _ _ _ _) = absurd (omega arith)
-why-1 P (first-bad i _ a) = demand1 .page-capacity-1567 P .one i .0 a .0
+why-1 P (unknown e _ _ _ _ _) = absurd (omega arith)
+why-1 P (open-bad i _ a) = demand1 .page-capacity-1 P i .0 a .0
 why-1 P (second-bad i _ a) = demand1 .read-second-1 P (blankOf 126) i .0 a .0
 
 -- neither refuses by 4
@@ -76,16 +89,16 @@ why-4 : (P : List ℕ) → WhyBad P 4 → Sized P × (state P ≡ 0) × ¬ (P �
 unfolding among
 why-4 P (not-sized e _) = absurd (omega arith)
 why-4 P (not-blank _ z s h) = (z, s, h)
-why-4 P (unknown e _ _ _ _) = absurd (omega arith)
-why-4 P (first-bad i _ a) = absurd (demand1 .page-capacity-by P .listed 4 i a)
+why-4 P (unknown e _ _ _ _ _) = absurd (omega arith)
+why-4 P (open-bad i _ a) = absurd (demand1 .page-capacity-by P .listed 4 i a)
 why-4 P (second-bad i _ a) = absurd (demand1 .read-second-by P (blankOf 126) .listed 4 i a)
 
 -- neither refuses by 5 a page in its own state
-why-5 : (P : List ℕ) → WhyBad P 5 → Sized P × ¬ (state P ≡ 0) × ¬ (state P ≡ 1) × ¬ (state P ≡ 7)
+why-5 : (P : List ℕ) → WhyBad P 5 → Sized P × ¬ (state P ≡ 0) × ¬ (state P ≡ 1) × ¬ (state P ≡ 3) × ¬ (state P ≡ 7)
 why-5 P (not-sized e _) = absurd (omega arith)
 why-5 P (not-blank e _ _ _) = absurd (omega arith)
-why-5 P (unknown _ z s0 s1 s7) = (z, s0, s1, s7)
-why-5 P (first-bad i s a) = absurd (demand1 .page-capacity-1567 P .five i .0 a .1 s)
+why-5 P (unknown _ z s0 s1 s3 s7) = (z, s0, s1, s3, s7)
+why-5 P (open-bad i s a) = let h = demand1 .page-capacity-5 P i .0 a in absurd (⊎-elim (h .1) (h .2) s)
 why-5 P (second-bad i s a) = absurd (demand1 .read-second-5 P (blankOf 126) i .0 a .1 s)
 
 -- state 00 with another byte set
@@ -105,6 +118,19 @@ first-refused P n z s =
     let r = refused-bad First (pageCapacityAnswer P) n (λ m e. let z : _≡_ {A = ℕ} 0 1 = cc in omega arith) in
     (λ e. r .0 (sym (kind-01 P z s) ∙ e), λ h. kind-01 P z s ∙ r .1 h)
 
+filled-refused : (P : List ℕ) (n : ℕ) → Sized P → state P ≡ 3 → (kindOf P ≡ Bad n) ↔ ((i : ℕ) × (pageCapacityAnswer P ≡ refusal n i))
+filled-refused P n z s =
+    let r = refused-bad Filled (pageCapacityAnswer P) n (λ m e. let z : _≡_ {A = ℕ} 0 1 = cc in omega arith) in
+    (λ e. r .0 (sym (kind-03 P z s) ∙ e), λ h. kind-03 P z s ∙ r .1 h)
+
+-- by 1 and by 5 it refuses no page that is sized and in state 03
+filled-6-or-7 : (P : List ℕ) (n : ℕ) → Sized P → state P ≡ 3 → kindOf P ≡ Bad n → T (among n (6 ∷ 7 ∷ []))
+filled-6-or-7 P n z s e =
+    let h = filled-refused P n z s .0 e in
+    let by : (k : ℕ) → n ≡ k → pageCapacityAnswer P ≡ refusal k (h .0) = λ k q. h .1 ∙ ap (λ (j : ℕ). refusal j (h .0)) q in
+    among-others n 5 _ (λ q. demand1 .page-capacity-5 P (h .0) .0 (by 5 q) .2 s)
+    (among-others n 1 _ (λ q. demand1 .page-capacity-1 P (h .0) .0 (by 1 q) .0 z) (demand1 .page-capacity-by P .listed n (h .0) (h .1)))
+
 -- read first refuses alike with any output that the record fits
 first-refused-as-read : (P out : List ℕ) (n : ℕ) → Sized P → state P ≡ 1 → 176 ≤ length out
     → (kindOf P ≡ Bad n) ↔ ((i : ℕ) × (readFirstAnswer P out ≡ refusal n i))
@@ -112,9 +138,10 @@ unfolding readFirstChecks
 first-refused-as-read P out n z s l =
     let cs = firstChecks page256 P in
     let fits = last-passed cs (ltb (length out) 176) 3 0 0 (le-ltb (length out) 176 l) in
-    let r = first-refused P n z s in (
-      λ e. let h = r .0 e in (h .0, fits ∙ same-refusal cs _ 0 n (h .0) (h .1)),
-      λ h. r .1 (h .0, same-refusal cs 0 _ n (h .0) (sym fits ∙ h .1)),
+    let r = first-refused P n z s in
+    let f = as-first page256 P (λ e. absurd (omega (arith, s, e))) in (
+      λ e. let h = r .0 e in (h .0, fits ∙ same-refusal cs _ 0 n (h .0) (sym f ∙ h .1)),
+      λ h. r .1 (h .0, f ∙ same-refusal cs 0 _ n (h .0) (sym fits ∙ h .1)),
     )
 
 -- read second refuses alike with any output that every record fits
@@ -130,11 +157,14 @@ pub kinds-exact : KindsExact
 kinds-exact = record {
   blank-page = λ P. (kind-why P Blank, λ e. ap kindOf e ∙ blank-kind);
   first-page = first-page;
+  filled-page = filled-page;
   second-page = second-page;
   bad-1 = λ P. (λ e. why-1 P (kind-why P (Bad 1) e), kind-not-sized P);
   bad-4 = λ P. (λ e. why-4 P (kind-why P (Bad 4) e), bad-4 P);
-  bad-5 = λ P. (λ e. why-5 P (kind-why P (Bad 5) e), λ h. kind-unknown P (h .0) (h .1) (h .2) (h .3));
+  bad-5 = λ P. (λ e. why-5 P (kind-why P (Bad 5) e), λ h. kind-unknown P (h .0) (h .1) (h .2) (h .3) (h .4));
   first-refused = first-refused;
+  filled-refused = filled-refused;
+  filled-6-or-7 = filled-6-or-7;
   first-refused-as-read = first-refused-as-read;
   second-refused = second-refused;
   bad-numbers = λ P n e. bad-among P n (kind-why P (Bad n) e);

@@ -16,12 +16,12 @@ use Rattle.answer.specs.Answer.{Answer, result, refusal, among, answer, numbers
 use Rattle.answer.proofs.Chains.{no-other, last-passed, within}
 use Rattle.rows.specs.Page.{state, byte1, isBlank, blankOf, page256}
 use Rattle.rows.proofs.Blank.{zeros-blank, blank-zeros}
-use Rattle.page.specs.Answer.{pageCapacityAnswer, firstChecks}
+use Rattle.filled.specs.Answer.{pageCapacityAnswer, capacityChecks}
 use Rattle.second.specs.Answer.{readSecondAnswer, secondChecks, readSecondChecks}
 use Rattle.demands.specs.Demands.{blank, Sized}
-use Rattle.report.specs.Kinds.{kindBy, kindOf, blankKind}
+use Rattle.report.specs.Kinds.{kindBy, kindOf, blankKind, openKind}
 use Rattle.report.specs.declared.Kind.{Kind}
-use Rattle.report.specs.declared.Kind.the-variants.{Blank, First, Second, Bad}
+use Rattle.report.specs.declared.Kind.the-variants.{Blank, First, Filled, Second, Bad}
 
 module _ (P : List ℕ) where
   pub kind-not-sized : ¬ (length P ≡ 256) → kindOf P ≡ Bad 1
@@ -37,14 +37,22 @@ module _ (P : List ℕ) where
     unfolding kindOf
     kind-01 s = rw (eq-eqb (length P) 256 sized) rw s refl
 
+    pub kind-03 : state P ≡ 3 → kindOf P ≡ kindBy Filled (pageCapacityAnswer P)
+    unfolding kindOf
+    kind-03 s = rw (eq-eqb (length P) 256 sized) rw s refl
+
+    -- in either of these, by the state
+    pub kind-open : (state P ≡ 1) ⊎ (state P ≡ 3) → kindOf P ≡ kindBy (openKind (state P)) (pageCapacityAnswer P)
+    kind-open s = ⊎-elim (λ e. kind-01 e ∙ rw e refl) (λ e. kind-03 e ∙ rw e refl) s
+
     pub kind-07 : state P ≡ 7 → kindOf P ≡ kindBy Second (readSecondAnswer P (blankOf 126))
     unfolding kindOf
     kind-07 s = rw (eq-eqb (length P) 256 sized) rw s refl
 
-    pub kind-unknown : ¬ (state P ≡ 0) → ¬ (state P ≡ 1) → ¬ (state P ≡ 7) → kindOf P ≡ Bad 5
+    pub kind-unknown : ¬ (state P ≡ 0) → ¬ (state P ≡ 1) → ¬ (state P ≡ 3) → ¬ (state P ≡ 7) → kindOf P ≡ Bad 5
     unfolding kindOf
-    kind-unknown s0 s1 s7 =
-        rw (eq-eqb (length P) 256 sized) rw (ne-eqb (state P) 0 s0) rw (ne-eqb (state P) 1 s1) rw (ne-eqb (state P) 7 s7) refl
+    kind-unknown s0 s1 s3 s7 =
+        rw (eq-eqb (length P) 256 sized) rw (ne-eqb (state P) 0 s0) rw (ne-eqb (state P) 1 s1) rw (ne-eqb (state P) 3 s3) rw (ne-eqb (state P) 7 s7) refl
 
 -- ---- why a piece has its kind
 
@@ -52,14 +60,15 @@ module _ (P : List ℕ) where
 pub data WhyBad (P : List ℕ) (n : ℕ) : Type 0 where
   not-sized : n ≡ 1 → ¬ Sized P → WhyBad P n
   not-blank : n ≡ 4 → Sized P → state P ≡ 0 → ¬ (P ≡ blank) → WhyBad P n
-  unknown : n ≡ 5 → Sized P → ¬ (state P ≡ 0) → ¬ (state P ≡ 1) → ¬ (state P ≡ 7) → WhyBad P n
-  first-bad : (i : ℕ) → state P ≡ 1 → pageCapacityAnswer P ≡ refusal n i → WhyBad P n
+  unknown : n ≡ 5 → Sized P → ¬ (state P ≡ 0) → ¬ (state P ≡ 1) → ¬ (state P ≡ 3) → ¬ (state P ≡ 7) → WhyBad P n
+  open-bad : (i : ℕ) → (state P ≡ 1) ⊎ (state P ≡ 3) → pageCapacityAnswer P ≡ refusal n i → WhyBad P n
   second-bad : (i : ℕ) → state P ≡ 7 → readSecondAnswer P (blankOf 126) ≡ refusal n i → WhyBad P n
 
 -- why a piece has a kind
 abbrev pub Why : List ℕ → Kind → Type 0
 Why P Blank = P ≡ blank
-Why P (First c) = pageCapacityAnswer P ≡ result c
+Why P (First c) = (state P ≡ 1) × (pageCapacityAnswer P ≡ result c)
+Why P (Filled c) = (state P ≡ 3) × (pageCapacityAnswer P ≡ result c)
 Why P (Second n) = readSecondAnswer P (blankOf 126) ≡ result n
 Why P (Bad n) = WhyBad P n
 
@@ -80,10 +89,14 @@ blank-or-bad P = go (isBlank 256 P) refl
     go false e = inr (λ h. subst T (sym blank-tested ∙ ap (isBlank 256) (sym h) ∙ e) tt, rw e)
 
 module _ (P : List ℕ) where
-  -- in state 01, by page capacity's answer
+  -- in states 01 and 03, by page capacity's answer
   by-capacity : state P ≡ 1 → (a : Answer) → pageCapacityAnswer P ≡ a → Why P (kindBy First a)
-  by-capacity s (result c) e = e
-  by-capacity s (refusal n i) e = first-bad i s e
+  by-capacity s (result c) e = (s, e)
+  by-capacity s (refusal n i) e = open-bad i (inl s) e
+
+  by-filled : state P ≡ 3 → (a : Answer) → pageCapacityAnswer P ≡ a → Why P (kindBy Filled a)
+  by-filled s (result c) e = (s, e)
+  by-filled s (refusal n i) e = open-bad i (inr s) e
 
   -- in state 07, by read second's
   by-second : state P ≡ 7 → (a : Answer) → readSecondAnswer P (blankOf 126) ≡ a → Why P (kindBy Second a)
@@ -91,19 +104,20 @@ module _ (P : List ℕ) where
   by-second s (refusal n i) e = second-bad i s e
 
   -- by the length and the state
-  by-cases : Dec (Sized P) → Dec (state P ≡ 0) → Dec (state P ≡ 1) → Dec (state P ≡ 7) → Why P (kindOf P)
-  by-cases (no z) d0 d1 d7 = rw (kind-not-sized P z) (not-sized refl z)
-  by-cases (yes z) (yes s) d1 d7 =
+  by-cases : Dec (Sized P) → Dec (state P ≡ 0) → Dec (state P ≡ 1) → Dec (state P ≡ 3) → Dec (state P ≡ 7) → Why P (kindOf P)
+  by-cases (no z) d0 d1 d3 d7 = rw (kind-not-sized P z) (not-sized refl z)
+  by-cases (yes z) (yes s) d1 d3 d7 =
       rw (kind-00 P z s) (⊎-elim (λ h. rw (h .1) (h .0)) (λ h. rw (h .1) (not-blank refl z s (h .0))) (blank-or-bad P))
-  by-cases (yes z) (no s0) (yes s) d7 = rw (kind-01 P z s) (by-capacity s (pageCapacityAnswer P) refl)
-  by-cases (yes z) (no s0) (no s1) (yes s) = rw (kind-07 P z s) (by-second s (readSecondAnswer P (blankOf 126)) refl)
-  by-cases (yes z) (no s0) (no s1) (no s7) = rw (kind-unknown P z s0 s1 s7) (unknown refl z s0 s1 s7)
+  by-cases (yes z) (no s0) (yes s) d3 d7 = rw (kind-01 P z s) (by-capacity s (pageCapacityAnswer P) refl)
+  by-cases (yes z) (no s0) (no s1) (yes s) d7 = rw (kind-03 P z s) (by-filled s (pageCapacityAnswer P) refl)
+  by-cases (yes z) (no s0) (no s1) (no s3) (yes s) = rw (kind-07 P z s) (by-second s (readSecondAnswer P (blankOf 126)) refl)
+  by-cases (yes z) (no s0) (no s1) (no s3) (no s7) = rw (kind-unknown P z s0 s1 s3 s7) (unknown refl z s0 s1 s3 s7)
 
   -- a piece that has a kind has it for that kind's reason
   pub kind-why : (k : Kind) → kindOf P ≡ k → Why P k
   kind-why k e =
       subst (Why P) e
-      (by-cases (ℕ-discrete (length P) 256) (ℕ-discrete (state P) 0) (ℕ-discrete (state P) 1) (ℕ-discrete (state P) 7))
+      (by-cases (ℕ-discrete (length P) 256) (ℕ-discrete (state P) 0) (ℕ-discrete (state P) 1) (ℕ-discrete (state P) 3) (ℕ-discrete (state P) 7))
 
 -- ---- the numbers of `bad`
 
@@ -124,11 +138,11 @@ badNumbers = 1 ∷ 4 ∷ 5 ∷ 6 ∷ 7 ∷ 9 ∷ []
 
 -- a bad piece's number is one of these
 pub bad-among : (P : List ℕ) (n : ℕ) → WhyBad P n → T (among n badNumbers)
-unfolding among numbers firstChecks secondChecks blankOf
+unfolding among numbers capacityChecks secondChecks blankOf
 bad-among P n (not-sized e _) = rw e tt
 bad-among P n (not-blank e _ _ _) = rw e tt
-bad-among P n (unknown e _ _ _ _) = rw e tt
-bad-among P n (first-bad i s e) = within n (1 ∷ 5 ∷ 6 ∷ 7 ∷ []) badNumbers (tt, (tt, (tt, (tt, tt)))) (no-other (firstChecks page256 P) _ .listed n i e)
+bad-among P n (unknown e _ _ _ _ _) = rw e tt
+bad-among P n (open-bad i s e) = within n (1 ∷ 5 ∷ 6 ∷ 7 ∷ []) badNumbers (tt, (tt, (tt, (tt, tt)))) (no-other (capacityChecks page256 P) _ .listed n i e)
 bad-among P n (second-bad i s e) =
     within n (1 ∷ 5 ∷ 6 ∷ 7 ∷ 9 ∷ []) badNumbers (tt, (tt, (tt, (tt, (tt, tt)))))
     (no-other (secondChecks page256 P) (byte1 P) .listed n i (sym (second-fits P (blankOf 126) (omega arith)) ∙ e))

@@ -11,24 +11,30 @@ use lib.ListN.{length, take, getD, replicate}
 use Rattle.cells.specs.Bytes.{Bytes}
 use Rattle.answer.specs.Answer.{refusal, among}
 use Rattle.rows.specs.Page.{page256, state, byte1, firstPage}
-use Rattle.page.specs.Answer.{readFirstAnswer, pageCapacityAnswer}
+use Rattle.page.specs.Answer.{readFirstAnswer}
+use Rattle.filled.specs.Answer.{pageCapacityAnswer}
 use Rattle.second.specs.Answer.{readSecondAnswer}
-use Rattle.demands.specs.Demands.{blank, Sized, FirstRound, SecondRound, dataCells}
+use Rattle.demands.specs.Demands.{blank, Sized, FirstRound, Filled as FilledPage, SecondRound, dataCells, filledCells}
 use Rattle.report.specs.Kinds.{kindOf}
 use Rattle.report.specs.Lines.{ascii, decimal, lineOf}
 use Rattle.report.specs.Listing.{listingFrom, listingOf, firstTurn, turnsFrom}
-use Rattle.report.specs.declared.Kind.the-variants.{Blank, First, Second, Bad}
+use Rattle.report.specs.declared.Kind.the-variants.{Blank, First, Filled, Second, Bad}
 
--- Each kind is given just where document 01 says, and `bad` has no other number than the six it names.
+-- Each kind is given just where the documents say, and `bad` has no other number than the six that they name.
 pub record KindsExact : Type 0 where
   pub blank-page : (P : List ℕ) → (kindOf P ≡ Blank) ↔ (P ≡ blank)
   pub first-page : (P : List ℕ) (c : ℕ) → Bytes P → (kindOf P ≡ First c) ↔ (FirstRound P × (c ≡ dataCells P))
+  -- "the kind `filled` with its capacity"
+  pub filled-page : (P : List ℕ) (c : ℕ) → Bytes P → (kindOf P ≡ Filled c) ↔ (FilledPage P × (c ≡ filledCells P))
   pub second-page : (P : List ℕ) (n : ℕ) → Bytes P → (kindOf P ≡ Second n) ↔ (SecondRound P × (n ≡ byte1 P))
   -- "4 for state 00 with another byte set, 5 for an unknown state, 6, 7 or 9 as the readers give them, 1 for a last piece shorter than 256"
   pub bad-1 : (P : List ℕ) → (kindOf P ≡ Bad 1) ↔ ¬ Sized P
   pub bad-4 : (P : List ℕ) → (kindOf P ≡ Bad 4) ↔ (Sized P × (state P ≡ 0) × ¬ (P ≡ blank))
-  pub bad-5 : (P : List ℕ) → (kindOf P ≡ Bad 5) ↔ (Sized P × ¬ (state P ≡ 0) × ¬ (state P ≡ 1) × ¬ (state P ≡ 7))
+  pub bad-5 : (P : List ℕ) → (kindOf P ≡ Bad 5) ↔ (Sized P × ¬ (state P ≡ 0) × ¬ (state P ≡ 1) × ¬ (state P ≡ 3) × ¬ (state P ≡ 7))
   pub first-refused : (P : List ℕ) (n : ℕ) → Sized P → state P ≡ 1 → (kindOf P ≡ Bad n) ↔ ((i : ℕ) × (pageCapacityAnswer P ≡ refusal n i))
+  -- "and `bad` there has page capacity's 6 or 7"
+  pub filled-refused : (P : List ℕ) (n : ℕ) → Sized P → state P ≡ 3 → (kindOf P ≡ Bad n) ↔ ((i : ℕ) × (pageCapacityAnswer P ≡ refusal n i))
+  pub filled-6-or-7 : (P : List ℕ) (n : ℕ) → Sized P → state P ≡ 3 → kindOf P ≡ Bad n → T (among n (6 ∷ 7 ∷ []))
   -- whatever output read first is given, if the record fits it, and read second, if every record does
   pub first-refused-as-read : (P out : List ℕ) (n : ℕ) → Sized P → state P ≡ 1 → 176 ≤ length out
       → (kindOf P ≡ Bad n) ↔ ((i : ℕ) × (readFirstAnswer P out ≡ refusal n i))

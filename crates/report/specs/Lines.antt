@@ -7,7 +7,7 @@ use Prim.Native.Char.{code}
 use Prim.Native.String.{String, [] as none, _∷_ as _then_}
 use lib.Dec.{ltb}
 use Rattle.report.specs.declared.Kind.{Kind}
-use Rattle.report.specs.declared.Kind.the-variants.{Blank, First, Second, Bad}
+use Rattle.report.specs.declared.Kind.the-variants.{Blank, First, Filled, Second, Bad}
 
 -- the bytes of a text
 abbrev pub ascii : String → List ℕ
@@ -27,12 +27,14 @@ decimal n = digits n n
 abbrev pub nameOf : Kind → List ℕ
 nameOf Blank = ascii "blank"
 nameOf (First n) = ascii "first"
+nameOf (Filled n) = ascii "filled"
 nameOf (Second n) = ascii "second"
 nameOf (Bad n) = ascii "bad"
 
 abbrev pub numberOf : Kind → ℕ
 numberOf Blank = 0
 numberOf (First n) = n
+numberOf (Filled n) = n
 numberOf (Second n) = n
 numberOf (Bad n) = n
 

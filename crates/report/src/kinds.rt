@@ -1,20 +1,30 @@
 // The kind of a piece of input, by its state and by what the page's readers answer.
 use crate::Kind;
-use page::Measured;
+use filled::Measured;
 use second::SecondRead;
 ghost use mathlib.Core.Path.{_≡_};
 ghost use Rattle.rows.specs.Page.{blankOf};
-ghost use Rattle.page.specs.Answer.{measuredCode};
+ghost use Rattle.filled.specs.Answer.{measuredCode};
 ghost use Rattle.second.specs.Answer.{secondReadCode, readSecondAnswer};
-ghost use Rattle.report.specs.Kinds.{kindBy, kindOf, blankKind};
-ghost use Rattle.report.specs.declared.Kind.the-variants.{First, Second};
+ghost use Rattle.report.specs.Kinds.{kindBy, kindOf, blankKind, openKind};
+ghost use Rattle.report.specs.declared.Kind.the-variants.{Second};
 
-// The kind that page capacity's answer makes.
-fn kind_measured(m: Measured) -> Kind
-    ensures { λ r. ⌜ r ≡ kindBy First (measuredCode m) ⌝ }
+// The kind of a page in state 01 or 03 that has a capacity.
+fn open_kind(state: u8, n: u32) -> Kind
+    ensures { λ r. ⌜ r ≡ openKind state n ⌝ }
+{
+    if state == 3 {
+        return Kind::Filled(n);
+    }
+    Kind::First(n)
+}
+
+// The kind that page capacity's answer makes of a page in state 01 or 03.
+fn kind_measured(state: u8, m: Measured) -> Kind
+    ensures { λ r. ⌜ r ≡ kindBy (openKind state) (measuredCode m) ⌝ }
 {
     match m {
-        Measured::Capacity(n) => Kind::First(n),
+        Measured::Capacity(n) => open_kind(state, n),
         Measured::PageLength => Kind::Bad(1),
         Measured::State => Kind::Bad(5),
         Measured::Header => Kind::Bad(6),
@@ -65,7 +75,7 @@ pub fn kind_of(piece: &[u8]) -> Kind
     let state = piece[0];
     match state {
         0 => blank_kind(piece),
-        1 => kind_measured(page::capacity(piece)),
+        1 | 3 => kind_measured(state, filled::capacity(piece)),
         7 => second_kind(piece),
         _ => Kind::Bad(5),
     }

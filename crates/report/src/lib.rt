@@ -9,11 +9,12 @@ pub use turns::first_turn;
 pub use turns::next_turn;
 pub use turns::put_turn;
 
-// The kind of a piece: a blank page, a first-round page with its capacity in bits, a second-round page with its record's length in bytes,
-// or anything else with the number of its refusal.
+// The kind of a piece: a blank page, a first-round page or a filled page with its capacity in bits, a second-round page with its record's
+// length in bytes, or anything else with the number of its refusal.
 pub enum Kind {
     Blank,
     First(u32),
+    Filled(u32),
     Second(u32),
     Bad(u32),
 }

@@ -42,6 +42,7 @@ fn put_middle(line: &mut [u8; 32], at: usize, kind: Kind) -> usize
     match kind {
         Kind::Blank => put_text(line, at, b" blank "),
         Kind::First(_) => put_text(line, at, b" first "),
+        Kind::Filled(_) => put_text(line, at, b" filled "),
         Kind::Second(_) => put_text(line, at, b" second "),
         Kind::Bad(_) => put_text(line, at, b" bad "),
     }
@@ -54,6 +55,7 @@ fn number_of(kind: Kind) -> u32
     match kind {
         Kind::Blank => 0,
         Kind::First(n) => n,
+        Kind::Filled(n) => n,
         Kind::Second(n) => n,
         Kind::Bad(n) => n,
     }

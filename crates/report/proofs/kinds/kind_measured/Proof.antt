@@ -1,15 +1,17 @@
 -- `kinds::kind_measured` meets its contract: each case gives its kind.
 -- Assumes nothing.
-use mathlib.Core.Path.{sym, ap}
+use mathlib.Core.Path.{sym, ap, _∙_}
 use borrow.Author.Needs.{needs}
-use Rattle.page.specs.Answer.{measuredCode}
-use Rattle.report.specs.Kinds.{kindBy}
-use Rattle.report.specs.declared.Kind.the-variants.{First}
+use Rattle.filled.specs.Answer.{measuredCode}
+use Rattle.report.specs.Kinds.{kindBy, openKind}
 use Rattle.report.proofs.kinds.kind_measured.Statement.{statement}
 use Rattle.report.proofs.kinds.kind_measured.Tie as tie
 
 enum-known-m : tie.Need-enum-known-m
 enum-known-m c = search needs
+
+open-kind-requires : tie.Need-open-kind-requires
+open-kind-requires c κs = search needs
 
 enum-told : tie.Need-enum-told
 enum-told c = search needs
@@ -24,7 +26,7 @@ enum-told-4 : tie.Need-enum-told-4
 enum-told-4 c = search needs
 
 returns : tie.Need-returns
-returns c = sym (ap (λ m. kindBy First (measuredCode m)) (c .before .m .given .1))
+returns c = c .open-kind .ensures ∙ sym (ap (λ m. kindBy (openKind (c .before .before .before .before .args .state)) (measuredCode m)) (c .before .before .m .given .1))
 
 returns-2 : tie.Need-returns-2
 returns-2 c = search needs
@@ -43,6 +45,7 @@ kind-measured-spec =
     tie.close
     (tie.spec
     enum-known-m
+    open-kind-requires
     enum-told
     enum-told-2
     enum-told-3

@@ -1,10 +1,11 @@
 -- `kinds::kind_of` meets its contract: each state goes to what answers for it.
 -- Assumes nothing.
+use mathlib.Core.Logic.{inl, inr}
 use mathlib.Core.Path.{sym, ap, _∙_}
 use borrow.Author.Needs.{needs}
-use Rattle.report.specs.declared.Kind.the-variants.{First}
-use Rattle.report.specs.Kinds.{kindBy}
-use Rattle.report.proofs.Deciding.{kind-not-sized, kind-00, kind-01, kind-07, kind-unknown}
+use Rattle.rows.specs.Page.{state}
+use Rattle.report.specs.Kinds.{kindBy, openKind}
+use Rattle.report.proofs.Deciding.{kind-not-sized, kind-00, kind-open, kind-07, kind-unknown}
 use Rattle.report.proofs.kinds.kind_of.Statement.{statement}
 use Rattle.report.proofs.kinds.kind_of.Tie as tie
 
@@ -31,15 +32,17 @@ returns-2 c = c .blank-kind .ensures ∙ sym (kind-00 _ (c .before .before .befo
 
 returns-3 : tie.Need-returns-3
 returns-3 c =
-    c .kind-measured .ensures
-    ∙ ap (kindBy First) (c .before .capacity .ensures)
-    ∙ sym (kind-01 _ (c .before .before .before .before .if1 .left) (c .before .before .match .keys2))
+    let at = c .before .before in
+    let P = at .before .before .before .before .args .piece .now in
+    c .kind-measured .ensures ∙ ap (kindBy (openKind (state P))) (c .before .capacity .ensures) ∙ sym (kind-open _ (at .before .before .if1 .left) (at .match .keys2))
 
 returns-4 : tie.Need-returns-4
 returns-4 c = c .second-kind .ensures ∙ sym (kind-07 _ (c .before .before .before .if1 .left) (c .before .match .keys3))
 
 returns-5 : tie.Need-returns-5
-returns-5 c = sym (kind-unknown _ (c .before .before .if1 .left) (c .match .rest .0 .0 .1) (c .match .rest .0 .1) (c .match .rest .1))
+returns-5 c =
+    let neither = c .match .rest .0 .1 in
+    sym (kind-unknown _ (c .before .before .if1 .left) (c .match .rest .0 .0 .1) (λ e. neither (inl e)) (λ e. neither (inr e)) (c .match .rest .1))
 
 pub kind-of-spec : {M : Type 1} → statement M
 kind-of-spec =

@@ -6,17 +6,18 @@ use native.Mathlib.Omega.{arith}
 use borrow.Author.Needs.{needs}
 use lib.ListN.{length}
 use Rattle.report.specs.declared.Kind.{Kind}
-use Rattle.report.specs.declared.Kind.the-variants.{Blank, First, Second, Bad}
+use Rattle.report.specs.declared.Kind.the-variants.{Blank, First, Filled, Second, Bad}
 use Rattle.report.specs.Lines.{ascii, decimal, middleOf, numberOf, lineOf}
 use Rattle.report.proofs.Decimals.{decimal-32}
 use Rattle.report.proofs.Storing.{Put, put-put}
 use Rattle.report.proofs.lines.put_line.Statement.{statement}
 use Rattle.report.proofs.lines.put_line.Tie as tie
 
--- the longest text between the numbers is that of `second`
+-- the longest texts between the numbers are those of `filled` and `second`
 middle-short : (k : Kind) → length (middleOf k) ≤ 8
 middle-short Blank = omega arith
 middle-short (First n) = omega arith
+middle-short (Filled n) = omega arith
 middle-short (Second n) = omega arith
 middle-short (Bad n) = omega arith
 

@@ -52,6 +52,15 @@ slice-aggregate-put-text-4 c = search needs
 put-text-requires-4 : tie.Need-put-text-requires-4
 put-text-requires-4 c κs = search needs
 
+enum-told-5 : tie.Need-enum-told-5
+enum-told-5 c = search needs
+
+slice-aggregate-put-text-5 : tie.Need-slice-aggregate-put-text-5
+slice-aggregate-put-text-5 c = search needs
+
+put-text-requires-5 : tie.Need-put-text-requires-5
+put-text-requires-5 c κs = search needs
+
 returns : tie.Need-returns
 returns c =
     let a = c .before .before .before .before .before .args in
@@ -72,6 +81,11 @@ returns-4 c =
     let a = c .before .before .before .before .before .args in
     named (a .line .now) (a .at) (c .put-text4 .result) (c .put-text4 .last .0) (c .before .before .before .enum-told4 .given .1) (c .put-text4 .ensures)
 
+returns-5 : tie.Need-returns-5
+returns-5 c =
+    let a = c .before .before .before .before .before .args in
+    named (a .line .now) (a .at) (c .put-text5 .result) (c .put-text5 .last .0) (c .before .before .before .enum-told5 .given .1) (c .put-text5 .ensures)
+
 pub put-middle-spec : {M : Type 1} → statement M
 put-middle-spec =
     tie.close
@@ -88,7 +102,11 @@ put-middle-spec =
     enum-told-4
     slice-aggregate-put-text-4
     put-text-requires-4
+    enum-told-5
+    slice-aggregate-put-text-5
+    put-text-requires-5
     returns
     returns-2
     returns-3
-    returns-4)
+    returns-4
+    returns-5)
