@@ -4,7 +4,7 @@
 // A call is a header of 13 bytes, then the page or pages and the other buffer as they are before the call:
 //
 //     byte 0         the entry: 0 encode word, 1 decode word, 2 fill word, 3 word capacity, 4 write first, 5 read first,
-//                    6 page capacity, 7 rewrite, 8 read second, 9 write file
+//                    6 page capacity, 7 write second, 8 read second, 9 write file, 10 fill page
 //     bytes 1 to 8   the argument of a word entry, or write file's device number
 //     bytes 9, 10    the length of the page or pages, at most 1,024
 //     bytes 11, 12   the length of the other buffer (data, output or record), at most 1,024
@@ -40,9 +40,10 @@ fn answer_page(entry: u8, argument: u64, page: &mut [u8], other: &mut [u8]) -> u
         4 => wom::wom_write_first(page, other),
         5 => wom::wom_read_first(page, other),
         6 => wom::wom_page_capacity(page),
-        7 => wom::wom_rewrite(page, other),
+        7 => wom::wom_write_second(page, other),
         8 => wom::wom_read_second(page, other),
-        _ => wom::wom_write_file(low_half(argument), page, other),
+        9 => wom::wom_write_file(low_half(argument), page, other),
+        _ => wom::wom_fill_page(page),
     }
 }
 
@@ -79,7 +80,7 @@ fn replay_page(index: u32, entry: u8, argument: u64, page: &mut [u8], other: &mu
     }
     tell_answer(index, entry, answer_page(entry, argument, page, other));
     match entry {
-        4 | 7 => tell_bytes(page),
+        4 | 7 | 10 => tell_bytes(page),
         5 | 8 | 9 => tell_bytes(other),
         _ => {}
     }
@@ -94,7 +95,7 @@ fn replay(index: u32, header: &[u8; 13]) -> bool {
         tell_answer(index, entry, answer_word(entry, argument));
         return true;
     }
-    if 9 < entry {
+    if 10 < entry {
         return false;
     }
     let lengths = cells::four_bytes(header, 9);

@@ -1,6 +1,7 @@
 //! A call of one entry: what goes in, and its performance by this implementation.
 
 use crate::answer::Answer;
+use crate::page::{BLANK, FILLED, FIRST_ROUND, SECOND_ROUND};
 use crate::{file, page, word};
 
 /// The entries, in the order of their numbers.
@@ -13,13 +14,14 @@ pub enum Entry {
     WriteFirst,
     ReadFirst,
     PageCapacity,
-    Rewrite,
+    WriteSecond,
     ReadSecond,
     WriteFile,
+    FillPage,
 }
 
 impl Entry {
-    pub const ALL: [Entry; 10] = [
+    pub const ALL: [Entry; 11] = [
         Entry::EncodeWord,
         Entry::DecodeWord,
         Entry::FillWord,
@@ -27,19 +29,28 @@ impl Entry {
         Entry::WriteFirst,
         Entry::ReadFirst,
         Entry::PageCapacity,
-        Entry::Rewrite,
+        Entry::WriteSecond,
         Entry::ReadSecond,
         Entry::WriteFile,
+        Entry::FillPage,
     ];
     /// The entries that take a word and may refuse it.
     pub const OF_WORDS: [Entry; 3] = [Entry::DecodeWord, Entry::FillWord, Entry::WordCapacity];
-    /// The entries that take one page.
-    pub const OF_PAGES: [Entry; 5] =
-        [Entry::WriteFirst, Entry::ReadFirst, Entry::PageCapacity, Entry::Rewrite, Entry::ReadSecond];
+    /// The entries that take one page, in the order of a page's life.
+    pub const OF_PAGES: [Entry; 6] = [
+        Entry::WriteFirst,
+        Entry::ReadFirst,
+        Entry::PageCapacity,
+        Entry::FillPage,
+        Entry::WriteSecond,
+        Entry::ReadSecond,
+    ];
     /// The entries that take data, an output or a record beside one page.
-    pub const WITH_OTHER: [Entry; 4] = [Entry::WriteFirst, Entry::ReadFirst, Entry::Rewrite, Entry::ReadSecond];
+    pub const WITH_OTHER: [Entry; 4] = [Entry::WriteFirst, Entry::ReadFirst, Entry::WriteSecond, Entry::ReadSecond];
     /// The entries that take a first-round page.
-    pub const OF_FIRST_PAGES: [Entry; 3] = [Entry::ReadFirst, Entry::PageCapacity, Entry::Rewrite];
+    pub const OF_FIRST_PAGES: [Entry; 3] = [Entry::ReadFirst, Entry::PageCapacity, Entry::FillPage];
+    /// The entries that take a filled page.
+    pub const OF_FILLED_PAGES: [Entry; 2] = [Entry::PageCapacity, Entry::WriteSecond];
 
     pub fn number(self) -> usize {
         self as usize
@@ -54,9 +65,10 @@ impl Entry {
             Entry::WriteFirst => "write first",
             Entry::ReadFirst => "read first",
             Entry::PageCapacity => "page capacity",
-            Entry::Rewrite => "rewrite",
+            Entry::WriteSecond => "write second",
             Entry::ReadSecond => "read second",
             Entry::WriteFile => "write file",
+            Entry::FillPage => "fill page",
         }
     }
 
@@ -76,10 +88,22 @@ impl Entry {
             Entry::DecodeWord | Entry::FillWord | Entry::WordCapacity => &[10, 11, 12],
             Entry::WriteFirst => &[1, 2, 4],
             Entry::ReadFirst => &[1, 5, 6, 7, 3],
-            Entry::PageCapacity => &[1, 5, 6, 7],
-            Entry::Rewrite => &[1, 5, 6, 7, 8],
+            Entry::PageCapacity | Entry::FillPage => &[1, 5, 6, 7],
+            Entry::WriteSecond => &[1, 5, 6, 7, 8],
             Entry::ReadSecond => &[1, 5, 6, 7, 9, 3],
             Entry::WriteFile => &[13, 3],
+        }
+    }
+
+    /// The states of the pages that the entry accepts; none for an entry without a page of its own.
+    pub fn states(self) -> &'static [u8] {
+        match self {
+            Entry::WriteFirst => &[BLANK],
+            Entry::ReadFirst | Entry::FillPage => &[FIRST_ROUND],
+            Entry::PageCapacity => &[FIRST_ROUND, FILLED],
+            Entry::WriteSecond => &[FILLED],
+            Entry::ReadSecond => &[SECOND_ROUND],
+            _ => &[],
         }
     }
 
@@ -96,7 +120,7 @@ impl Entry {
     }
 
     pub fn writes_page(self) -> bool {
-        matches!(self, Entry::WriteFirst | Entry::Rewrite)
+        matches!(self, Entry::WriteFirst | Entry::FillPage | Entry::WriteSecond)
     }
 
     pub fn writes_output(self) -> bool {
@@ -121,9 +145,9 @@ impl Call {
         Call { entry, argument, page: Vec::new(), other: Vec::new() }
     }
 
-    /// Page capacity has no other buffer: what is given for it is left out.
+    /// Page capacity and fill page have no other buffer: what is given for it is left out.
     pub fn of_page(entry: Entry, page: Vec<u8>, other: Vec<u8>) -> Call {
-        let other = if entry == Entry::PageCapacity { Vec::new() } else { other };
+        let other = if entry.takes_other() { other } else { Vec::new() };
         Call { entry, argument: 0, page, other }
     }
 
@@ -141,9 +165,10 @@ impl Call {
             Entry::WriteFirst => page::write_first(&mut self.page, &self.other),
             Entry::ReadFirst => page::read_first(&self.page, &mut self.other),
             Entry::PageCapacity => page::page_capacity(&self.page),
-            Entry::Rewrite => page::rewrite(&mut self.page, &self.other),
+            Entry::WriteSecond => page::write_second(&mut self.page, &self.other),
             Entry::ReadSecond => page::read_second(&self.page, &mut self.other),
             Entry::WriteFile => file::write_file(self.argument as u32, &self.page, &mut self.other),
+            Entry::FillPage => page::fill_page(&mut self.page),
         }
     }
 
@@ -153,6 +178,30 @@ impl Call {
             entry if entry.writes_page() => Some(&self.page),
             entry if entry.writes_output() => Some(&self.other),
             _ => None,
+        }
+    }
+}
+
+#[cfg(test)]
+mod tests {
+    use super::*;
+
+    /// The numbers that the vectors' files use.
+    #[test]
+    fn numbers_are_places_in_the_list() {
+        for (number, entry) in Entry::ALL.into_iter().enumerate() {
+            assert_eq!(entry.number(), number);
+        }
+        let named = [Entry::PageCapacity, Entry::WriteSecond, Entry::ReadSecond, Entry::WriteFile, Entry::FillPage];
+        assert_eq!(named.map(Entry::number), [6, 7, 8, 9, 10]);
+    }
+
+    #[test]
+    fn the_lists_tell_the_states() {
+        for entry in Entry::ALL {
+            assert_eq!(entry.states().contains(&FIRST_ROUND), Entry::OF_FIRST_PAGES.contains(&entry));
+            assert_eq!(entry.states().contains(&FILLED), Entry::OF_FILLED_PAGES.contains(&entry));
+            assert_eq!(entry.states().is_empty(), !entry.takes_page());
         }
     }
 }

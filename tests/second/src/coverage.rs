@@ -1,13 +1,57 @@
 //! Counters of the calls that a run has made, and of their answers.
 
 use crate::answer::{number, value, Answer};
-use crate::call::Entry;
+use crate::call::{Call, Entry};
 use crate::case::Place;
 use crate::memory::Side;
-use crate::page::WORDS;
+use crate::page::{words_of, FILLED, FIRST_ROUND, WORDS};
+use crate::word;
 
 /// The capacities that refusal 8 must have named: the least and the most of a page.
 const ENDS: [u64; 2] = [660, 1_012];
+
+/// What is wrong with a word that 7 names.
+#[derive(Clone, Copy, PartialEq, Eq)]
+enum Flaw {
+    NotLegal,
+    NotWellFormed,
+    /// On a filled page, in a word that is well formed.
+    DataCellSet,
+}
+
+impl Flaw {
+    fn name(self) -> &'static str {
+        match self {
+            Flaw::NotLegal => "not legal",
+            Flaw::NotWellFormed => "not well formed",
+            Flaw::DataCellSet => "with a data cell set",
+        }
+    }
+
+    /// What is wrong with the word of this index.
+    fn of(page: &[u8], index: usize) -> Flaw {
+        match page[0] {
+            FIRST_ROUND => Flaw::NotLegal,
+            FILLED if word::well_formed(&words_of(page)[index]) => Flaw::DataCellSet,
+            _ => Flaw::NotWellFormed,
+        }
+    }
+}
+
+/// Each entry that gives 7, with each flaw that it gives it for.
+const FLAWS: [(Entry, Flaw); 8] = [
+    (Entry::ReadFirst, Flaw::NotLegal),
+    (Entry::PageCapacity, Flaw::NotLegal),
+    (Entry::PageCapacity, Flaw::NotWellFormed),
+    (Entry::PageCapacity, Flaw::DataCellSet),
+    (Entry::FillPage, Flaw::NotLegal),
+    (Entry::WriteSecond, Flaw::NotWellFormed),
+    (Entry::WriteSecond, Flaw::DataCellSet),
+    (Entry::ReadSecond, Flaw::NotWellFormed),
+];
+
+/// The states that page capacity serves, with their names.
+const MEASURED: [(u8, &str); 2] = [(FIRST_ROUND, "in state 01"), (FILLED, "in state 03")];
 
 const ENTRIES: usize = Entry::ALL.len();
 
@@ -20,31 +64,52 @@ type Numbers = [[u64; NUMBERS]; ENTRIES];
 pub struct Coverage {
     /// For each place of the buffers.
     places: [Numbers; 6],
-    /// For each entry and each word: how often 7 named it.
-    words: [[u64; WORDS]; ENTRIES],
+    /// For each place, each of `MEASURED` and each number: how often page capacity answered it.
+    measured: [[[u64; NUMBERS]; 2]; 6],
+    /// For each of `FLAWS` and each word: how often 7 named it.
+    words: [[u64; WORDS]; FLAWS.len()],
     /// For each of `ENDS`: how often 8 named it.
     ends: [u64; 2],
 }
 
 impl Coverage {
     pub fn new() -> Coverage {
-        Coverage { places: [[[0; NUMBERS]; ENTRIES]; 6], words: [[0; WORDS]; ENTRIES], ends: [0; 2] }
-    }
-
-    /// Counts a call, made with its buffers in this place.
-    pub fn count(&mut self, entry: Entry, place: Place, answer: Answer) {
-        self.places[place.number()][entry.number()][usize::from(number(answer))] += 1;
-        if place == Place::Canaries {
-            self.count_index(entry, answer);
+        Coverage {
+            places: [[[0; NUMBERS]; ENTRIES]; 6],
+            measured: [[[0; NUMBERS]; 2]; 6],
+            words: [[0; WORDS]; FLAWS.len()],
+            ends: [0; 2],
         }
     }
 
-    fn count_index(&mut self, entry: Entry, answer: Answer) {
+    /// Counts a call, as it was before it was made with its buffers in this place.
+    pub fn count(&mut self, call: &Call, place: Place, answer: Answer) {
+        self.places[place.number()][call.entry.number()][usize::from(number(answer))] += 1;
+        if call.entry == Entry::PageCapacity {
+            self.count_measured(call, place, answer);
+        }
+        if place == Place::Canaries {
+            self.count_index(call, answer);
+        }
+    }
+
+    fn count_measured(&mut self, call: &Call, place: Place, answer: Answer) {
+        for (state, numbers) in self.measured[place.number()].iter_mut().enumerate() {
+            numbers[usize::from(number(answer))] += u64::from(call.page.first() == Some(&MEASURED[state].0));
+        }
+    }
+
+    fn count_index(&mut self, call: &Call, answer: Answer) {
         match number(answer) {
-            7 => self.words[entry.number()][value(answer) as usize] += 1,
+            7 => self.count_word(call, value(answer) as usize),
             8 => (0..2).filter(|&end| ENDS[end] == value(answer)).for_each(|end| self.ends[end] += 1),
             _ => {}
         }
+    }
+
+    fn count_word(&mut self, call: &Call, index: usize) {
+        let flaw = (call.entry, Flaw::of(&call.page, index));
+        (0..FLAWS.len()).filter(|&place| FLAWS[place] == flaw).for_each(|place| self.words[place][index] += 1);
     }
 
     /// How often the entry, with its buffers in this place, gave this number.
@@ -59,11 +124,13 @@ impl Coverage {
 
     /// Every counter that must not be 0, with its name.
     pub fn wanted(&self) -> Vec<(String, u64)> {
-        let ends = (0..2).map(|end| (format!("rewrite 8 with {}", ENDS[end]), self.ends[end]));
+        let ends = (0..2).map(|end| (format!("write second 8 with {}", ENDS[end]), self.ends[end]));
         let answers = Entry::ALL.into_iter().flat_map(|entry| self.wanted_of(entry));
+        let words = (0..FLAWS.len()).flat_map(|place| self.wanted_words(place));
+        let measured = (0..2).flat_map(|state| self.wanted_measured(state));
         let buffers = Entry::ALL.into_iter().filter(|entry| entry.takes_buffers());
         let places = buffers.flat_map(|entry| self.wanted_places(entry));
-        answers.chain(places).chain(ends).collect()
+        answers.chain(words).chain(measured).chain(places).chain(ends).collect()
     }
 
     fn wanted_of(&self, entry: Entry) -> Vec<(String, u64)> {
@@ -71,11 +138,28 @@ impl Coverage {
         let count = |number: u8| self.met(entry, Place::Canaries, number);
         let mut wanted = vec![(format!("{name} accepted"), count(0))];
         wanted.extend(entry.refusals().iter().map(|&number| (format!("{name} {number}"), count(number))));
-        if entry.refusals().contains(&7) {
-            let words = self.words[entry.number()].iter().enumerate();
-            wanted.extend(words.map(|(index, &met)| (format!("{name} 7 at word {index}"), met)));
-        }
         wanted
+    }
+
+    /// Each word is named for each flaw.
+    fn wanted_words(&self, place: usize) -> Vec<(String, u64)> {
+        let (entry, flaw) = FLAWS[place];
+        let name = |index: usize| format!("{} 7 at word {index}, {}", entry.name(), flaw.name());
+        self.words[place].iter().enumerate().map(|(index, &met)| (name(index), met)).collect()
+    }
+
+    /// In both states, page capacity accepts the page and refuses it 1, 6 and 7, in each place but far ones.
+    fn wanted_measured(&self, state: usize) -> Vec<(String, u64)> {
+        let accepted = Side::BOTH.map(|side| (Place::Guarded(side), 0));
+        let refused = Side::BOTH.map(Place::ReadOnly).map(|place| [1, 6, 7].map(|number| (place, number)));
+        let wanted = [0, 1, 6, 7].map(|number| (Place::Canaries, number));
+        let wanted = wanted.into_iter().chain(accepted).chain(refused.into_iter().flatten());
+        wanted.map(|(place, number)| self.wanted_in_state(state, place, number)).collect()
+    }
+
+    fn wanted_in_state(&self, state: usize, place: Place, number: u8) -> (String, u64) {
+        let name = format!("page capacity {} {}, {}", answer_name(number), MEASURED[state].1, place.name());
+        (name, self.measured[place.number()][state][usize::from(number)])
     }
 
     /// On both sides of untouchable memory the entry is accepted, and each refusal is given with read-only buffers; and
@@ -90,8 +174,8 @@ impl Coverage {
     }
 
     fn wanted_place(&self, entry: Entry, place: Place, number: u8) -> (String, u64) {
-        let answer = if number == 0 { "accepted".to_string() } else { number.to_string() };
-        (format!("{} {answer}, {}", entry.name(), place.name()), self.met(entry, place, number))
+        let name = format!("{} {}, {}", entry.name(), answer_name(number), place.name());
+        (name, self.met(entry, place, number))
     }
 
     /// One line an entry: its name, acceptances, and each refusal's number and count.
@@ -105,13 +189,21 @@ impl Coverage {
             line += &format!("  {number}: {:5}", self.met(entry, Place::Canaries, number));
         }
         if entry.refusals().contains(&7) {
-            let words = self.words[entry.number()].iter().filter(|&&met| met > 0).count();
-            line += &format!("  7 at {words} words");
+            line += &format!("  7 at {} words", self.words_named(entry));
         }
-        if entry == Entry::Rewrite {
+        if entry == Entry::PageCapacity {
+            line += &format!("  filled accepted: {}", self.measured[Place::Canaries.number()][1][0]);
+        }
+        if entry == Entry::WriteSecond {
             line += &format!("  8 with 660: {}  8 with 1012: {}", self.ends[0], self.ends[1]);
         }
         line + "\n"
+    }
+
+    /// The number of words that 7 of the entry named for each of its flaws.
+    fn words_named(&self, entry: Entry) -> usize {
+        let of_entry: Vec<usize> = (0..FLAWS.len()).filter(|&place| FLAWS[place].0 == entry).collect();
+        (0..WORDS).filter(|&index| of_entry.iter().all(|&place| self.words[place][index] > 0)).count()
     }
 
     /// The number of calls with their buffers in this place.
@@ -138,13 +230,22 @@ impl Default for Coverage {
     }
 }
 
+/// The number of an answer, or that it is an acceptance.
+fn answer_name(number: u8) -> String {
+    if number == 0 {
+        "accepted".to_string()
+    } else {
+        number.to_string()
+    }
+}
+
 /// The numbers that a far length of the entry's page or pages, and of its other buffer, must have led to; 0 for
 /// acceptance.
 fn far_numbers(entry: Entry) -> &'static [u8] {
     match entry {
         Entry::WriteFirst => &[1, 2],
         Entry::ReadFirst | Entry::ReadSecond => &[1, 0],
-        Entry::Rewrite => &[1, 8],
+        Entry::WriteSecond => &[1, 8],
         Entry::WriteFile => &[13, 0],
         _ => &[1],
     }
@@ -154,6 +255,7 @@ fn far_numbers(entry: Entry) -> &'static [u8] {
 mod tests {
     use super::*;
     use crate::answer::Refusal;
+    use crate::cases::pages::{filled_page, first_page, with_byte, with_data_cell, with_word};
 
     /// How many counters are still 0.
     fn missing(coverage: &Coverage) -> usize {
@@ -165,8 +267,8 @@ mod tests {
     fn every_place_is_wanted() {
         let places = |entry: Entry| 2 * (1 + entry.refusals().len()) + far_numbers(entry).len();
         let wanted: usize = Entry::ALL.into_iter().filter(|entry| entry.takes_buffers()).map(places).sum();
-        let names =
-            Coverage::new().wanted().into_iter().filter(|(name, _)| name.contains("memory") || name.contains("far"));
+        let of_place = |name: &str| name.contains("memory") || name.contains("far");
+        let names = Coverage::new().wanted().into_iter().filter(|(name, _)| of_place(name) && !name.contains("state"));
         assert_eq!(names.count(), wanted);
     }
 
@@ -174,12 +276,13 @@ mod tests {
     fn a_call_counts_for_its_place_alone() {
         let mut coverage = Coverage::new();
         let all = missing(&coverage);
+        let call = Call::of_page(Entry::WriteSecond, vec![FILLED; 256], Vec::new());
         for (met, place) in (1..).zip([Place::Guarded(Side::Before), Place::Guarded(Side::After), Place::Canaries]) {
-            coverage.count(Entry::Rewrite, place, Ok(0));
+            coverage.count(&call, place, Ok(0));
             assert_eq!(missing(&coverage), all - met);
         }
         for (met, place) in (4..).zip([Place::ReadOnly(Side::Before), Place::ReadOnly(Side::After), Place::Far]) {
-            coverage.count(Entry::Rewrite, place, Err(Refusal::PAGE_LENGTH));
+            coverage.count(&call, place, Err(Refusal::PAGE_LENGTH));
             assert_eq!(missing(&coverage), all - met);
         }
         assert_eq!(
@@ -187,5 +290,51 @@ mod tests {
             "2 calls right before untouchable memory, 2 right after it, 2 of these refused on read-only buffers, \
              1 calls with far lengths"
         );
+    }
+
+    /// The counters that a call between canary bytes turns from 0, by name.
+    fn met_by(entry: Entry, page: Vec<u8>) -> Vec<String> {
+        let call = Call::of_page(entry, page, vec![0; 127]);
+        let mut coverage = Coverage::new();
+        coverage.count(&call, Place::Canaries, call.clone().perform());
+        coverage.wanted().into_iter().filter(|(_, met)| *met > 0).map(|(name, _)| name).collect()
+    }
+
+    #[test]
+    fn page_capacity_counts_for_the_state_of_the_page() {
+        let first = first_page(&[0; WORDS]);
+        for (page, state) in [(first.clone(), "in state 01"), (filled_page(&first), "in state 03")] {
+            let accepted = format!("page capacity accepted {state}, between canary bytes");
+            assert_eq!(met_by(Entry::PageCapacity, page.clone()), ["page capacity accepted".to_string(), accepted]);
+            let refused = format!("page capacity 6 {state}, between canary bytes");
+            assert_eq!(met_by(Entry::PageCapacity, with_byte(page, 1, 1)), ["page capacity 6".to_string(), refused]);
+        }
+    }
+
+    #[test]
+    fn the_flaw_of_a_word_counts() {
+        let filled = filled_page(&first_page(&[0; WORDS]));
+        let hole = with_word(filled.clone(), 7, [false; 46]);
+        let written = with_data_cell(filled, 7 * 23);
+        for (page, flaw) in [(hole, "not well formed"), (written, "with a data cell set")] {
+            let name = format!("write second 7 at word 7, {flaw}");
+            assert_eq!(met_by(Entry::WriteSecond, page.clone()), ["write second 7".to_string(), name]);
+            let name = format!("page capacity 7 at word 7, {flaw}");
+            assert!(met_by(Entry::PageCapacity, page).contains(&name));
+        }
+    }
+
+    #[test]
+    fn every_entry_that_gives_7_has_a_flaw() {
+        for entry in Entry::ALL {
+            let has_flaw = FLAWS.iter().any(|(of, _)| *of == entry);
+            assert_eq!(has_flaw, entry.refusals().contains(&7), "{}", entry.name());
+        }
+    }
+
+    #[test]
+    fn the_capacity_that_8_names_counts() {
+        let filled = filled_page(&first_page(&[0; WORDS]));
+        assert_eq!(met_by(Entry::WriteSecond, filled), ["write second 8", "write second 8 with 1012"]);
     }
 }

@@ -195,13 +195,13 @@ mod tests {
     #[test]
     fn the_report_names_the_case() {
         let mark = Mark::new();
-        let call = Call::of_page(Entry::Rewrite, vec![1; 256], vec![2; 20]);
+        let call = Call::of_page(Entry::WriteSecond, vec![1; 256], vec![2; 20]);
         let case = Case::new(7, Part::Random, 31, &call).at(Place::ReadOnly(Side::After));
         mark.set(&case, 1_234, 2);
         assert!(text_of(&mark.report(SIGSEGV)).contains(&case.to_string()));
         assert_eq!(
             text_of(&mark.report(SIGSEGV)),
-            "wrong: seed 7, random case 31, rewrite (page of 256 bytes, other buffer of 20 bytes, \
+            "wrong: seed 7, random case 31, write second (page of 256 bytes, other buffer of 20 bytes, \
              read-only right after untouchable memory): forbidden memory was touched, signal 11\n\
              differential: seed 7, ended by a signal, 1234 checks, 3 wrong\n"
         );

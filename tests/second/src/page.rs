@@ -1,4 +1,4 @@
-//! The page and its five operations.
+//! The page and its six operations.
 
 use crate::answer::{refuse_if, Answer, Refusal};
 use crate::word::{self, Cells, CELLS};
@@ -14,6 +14,7 @@ pub const WORDS: usize = 44;
 
 pub const BLANK: u8 = 0x00;
 pub const FIRST_ROUND: u8 = 0x01;
+pub const FILLED: u8 = 0x03;
 pub const SECOND_ROUND: u8 = 0x07;
 
 /// "Bytes 3 to 255 are 2,024 cells".
@@ -46,11 +47,12 @@ pub fn put_words(page: &mut [u8], words: &Words) {
 }
 
 /// "A page's capacity is the sum over its words."
-pub fn capacity_of(words: &Words) -> usize {
+fn capacity_of(words: &Words) -> usize {
     words.iter().map(word::capacity).sum()
 }
 
-/// The data cells that reading back finds on a second-round page, as word and cell: "word 0 first, lower cells first".
+/// The data cells that reading back finds on a filled or second-round page, as word and cell: "word 0 first, lower cells
+/// first".
 pub fn data_cells_of(words: &Words) -> Vec<(usize, usize)> {
     let in_word = |index: usize| word::read_back(&words[index]).into_iter().map(move |cell| (index, cell));
     (0..WORDS).flat_map(in_word).collect()
@@ -64,24 +66,30 @@ fn refuse_word(words: &Words, sound: fn(&Cells) -> bool) -> Result<(), Refusal> 
     }
 }
 
-/// The words of a first-round page, or the refusals 1, 5, 6, 7 "as in read first".
-fn first_round_words(page: &[u8]) -> Result<Words, Refusal> {
+/// The words of a page in this state, whose byte 1 is at most `longest`; or the refusals 1, 5, 6, 7.
+fn words_in(page: &[u8], state: u8, longest: usize, sound: fn(&Cells) -> bool) -> Result<Words, Refusal> {
     refuse_if(page.len() != PAGE_BYTES, Refusal::PAGE_LENGTH)?;
-    refuse_if(page[0] != FIRST_ROUND, Refusal::STATE)?;
-    refuse_if(page[1] != 0 || page[2] != 0, Refusal::HEADER)?;
+    refuse_if(page[0] != state, Refusal::STATE)?;
+    refuse_if(usize::from(page[1]) > longest || page[2] != 0, Refusal::HEADER)?;
     let words = words_of(page);
-    refuse_word(&words, word::legal)?;
+    refuse_word(&words, sound)?;
     Ok(words)
 }
 
-/// The words of a second-round page, or the refusals 1, 5, 6, 7 of read second.
+/// The words of a first-round page, or the refusals "as in read first".
+fn first_round_words(page: &[u8]) -> Result<Words, Refusal> {
+    words_in(page, FIRST_ROUND, 0, word::legal)
+}
+
+/// The words of a filled page, or the refusals of writing: 7 is "for a word that is not well formed or has a data cell
+/// set".
+fn filled_words(page: &[u8]) -> Result<Words, Refusal> {
+    words_in(page, FILLED, 0, word::unwritten)
+}
+
+/// The words of a second-round page, or the refusals of read second.
 fn second_round_words(page: &[u8]) -> Result<Words, Refusal> {
-    refuse_if(page.len() != PAGE_BYTES, Refusal::PAGE_LENGTH)?;
-    refuse_if(page[0] != SECOND_ROUND, Refusal::STATE)?;
-    refuse_if(usize::from(page[1]) > SECOND_BYTES_MOST || page[2] != 0, Refusal::HEADER)?;
-    let words = words_of(page);
-    refuse_word(&words, word::well_formed)?;
-    Ok(words)
+    words_in(page, SECOND_ROUND, SECOND_BYTES_MOST, word::well_formed)
 }
 
 /// "each four bytes, highest first, make one word's value".
@@ -115,9 +123,22 @@ pub fn read_first(page: &[u8], output: &mut [u8]) -> Answer {
     Ok(0)
 }
 
-/// "Returns the bits a first-round page offers."
+/// "Page capacity serves both states; on a state 03 page it refuses 6 and 7 as writing does, and 5 is for any other
+/// state."
 pub fn page_capacity(page: &[u8]) -> Answer {
-    first_round_words(page).map(|words| capacity_of(&words) as u64)
+    let capacity = match page.first() {
+        Some(&FILLED) => data_cells_of(&filled_words(page)?).len(),
+        _ => capacity_of(&first_round_words(page)?),
+    };
+    Ok(capacity as u64)
+}
+
+/// "Filling turns a first-round page into state 03 (hexadecimal) with bytes 1 and 2 at 0."
+pub fn fill_page(page: &mut [u8]) -> Answer {
+    let words = first_round_words(page)?;
+    put_words(page, &words.map(|legal| word::filled(&legal)));
+    page[0] = FILLED;
+    Ok(0)
 }
 
 /// "8 times the record's length in bytes is at most the page's capacity".
@@ -125,24 +146,21 @@ fn fits(record: &[u8], capacity: usize) -> bool {
     8 * record.len() as u128 <= capacity as u128
 }
 
-/// "fills all 44 words, puts the record's bits [...] in the data cells, leaves the spare data cells 0".
-fn second_words(first: &Words, record: &[u8]) -> Words {
-    let mut bits = bits_of(record);
-    first.map(|legal| {
-        let mut cells = word::filled(&legal);
-        for cell in word::data_cells(&cells) {
-            cells[cell] = bits.next().unwrap_or(false);
-        }
-        cells
-    })
+/// "puts the record's bits (highest bit of each byte first) in the data cells, leaves the spare data cells 0".
+fn put_record(words: &mut Words, data_cells: &[(usize, usize)], record: &[u8]) {
+    for (&(index, cell), bit) in data_cells.iter().zip(bits_of(record)) {
+        words[index][cell] = bit;
+    }
 }
 
-/// "Takes a page and a record of any length."
-pub fn rewrite(page: &mut [u8], record: &[u8]) -> Answer {
-    let words = first_round_words(page)?;
-    let capacity = capacity_of(&words);
+/// "Writing puts a record over a state 03 page and gives state 07."
+pub fn write_second(page: &mut [u8], record: &[u8]) -> Answer {
+    let mut words = filled_words(page)?;
+    let data_cells = data_cells_of(&words);
+    let capacity = data_cells.len();
     refuse_if(!fits(record, capacity), Refusal::record_length(capacity))?;
-    put_words(page, &second_words(&words, record));
+    put_record(&mut words, &data_cells, record);
+    put_words(page, &words);
     page[1] = record.len() as u8;
     page[0] = SECOND_ROUND;
     Ok(0)
@@ -165,6 +183,9 @@ pub fn read_second(page: &[u8], output: &mut [u8]) -> Answer {
 #[cfg(test)]
 mod tests {
     use super::*;
+    use crate::cases::pages::{any_first, any_record};
+    use crate::cases::words::{unwritten, SPARSE_VALUE};
+    use crate::random::Random;
 
     fn first_page(value: u32) -> Vec<u8> {
         let mut page = vec![0; PAGE_BYTES];
@@ -172,34 +193,102 @@ mod tests {
         page
     }
 
-    /// Rewrites a copy of the page and reads the record back.
-    fn outcome(first: &[u8], record: &[u8]) -> Vec<u8> {
+    /// No cell of any byte is cleared.
+    fn check_cells(before: &[u8], after: &[u8]) {
+        assert!(before.iter().zip(after).all(|(before, after)| before & !after == 0));
+    }
+
+    /// Fills a copy of the page.
+    fn filled_page(first: &[u8]) -> Vec<u8> {
         let mut page = first.to_vec();
-        assert_eq!(rewrite(&mut page, record), Ok(0));
+        assert_eq!(fill_page(&mut page), Ok(0));
+        assert_eq!(page[..3], [0x03, 0, 0]);
+        check_cells(first, &page);
+        page
+    }
+
+    /// The outcome as document 01 defines it, from the first-round page: it "fills all 44 words, puts the record's bits
+    /// (highest bit of each byte first) in the data cells, leaves the spare data cells 0, and writes byte 1 and state
+    /// 07".
+    fn outcome_by_the_rules(first: &[u8], record: &[u8]) -> Vec<u8> {
+        let mut bits = bits_of(record);
+        let words = words_of(first).map(|legal| {
+            let mut cells = word::filled(&legal);
+            word::data_cells(&cells).into_iter().for_each(|cell| cells[cell] = bits.next().unwrap_or(false));
+            cells
+        });
+        let mut page = vec![0x07, record.len() as u8, 0];
+        page.resize(PAGE_BYTES, 0);
+        put_words(&mut page, &words);
+        page
+    }
+
+    /// Fills a copy of the page, writes the record over it and reads it back.
+    fn outcome(first: &[u8], record: &[u8]) -> Vec<u8> {
+        let filled = filled_page(first);
+        let mut page = filled.clone();
+        assert_eq!(write_second(&mut page, record), Ok(0));
+        check_cells(&filled, &page);
+        assert_eq!(page, outcome_by_the_rules(first, record));
         let mut output = vec![0xA5; record.len() + 1];
         assert_eq!(read_second(&page, &mut output), Ok(record.len() as u64));
         assert_eq!(output, [record, &[0xA5]].concat());
         page
     }
 
-    /// `most` bytes are accepted, one more is refused 8 with the capacity.
-    fn check_capacity(value: u32, capacity: usize, most: usize) {
-        let first = first_page(value);
-        assert_eq!(page_capacity(&first), Ok(capacity as u64));
-        outcome(&first, &vec![0x96; most]);
-        let mut page = first.clone();
-        assert_eq!(rewrite(&mut page, &vec![0x96; most + 1]), Err(Refusal::record_length(capacity)));
-        assert_eq!(page, first);
+    /// The capacity in both states; `most` bytes are accepted, one more is refused 8 with the capacity, and "the page
+    /// remains filled".
+    fn check_capacity(first: &[u8], capacity: usize, most: usize) {
+        let filled = filled_page(first);
+        assert_eq!(page_capacity(first), Ok(capacity as u64));
+        assert_eq!(page_capacity(&filled), Ok(capacity as u64));
+        outcome(first, &vec![0x96; most]);
+        let mut page = filled.clone();
+        assert_eq!(write_second(&mut page, &vec![0x96; most + 1]), Err(Refusal::record_length(capacity)));
+        assert_eq!(page, filled);
     }
 
     #[test]
     fn page_of_176_zero_bytes() {
-        check_capacity(0, 1012, 126);
+        check_capacity(&first_page(0), 1012, 126);
     }
 
     #[test]
     fn page_of_44_times_3889371024() {
-        check_capacity(3_889_371_024, 660, 82);
+        check_capacity(&first_page(3_889_371_024), 660, 82);
+    }
+
+    /// "Where the record fits, the outcome of the two is the old outcome".
+    #[test]
+    fn many_pages_through_both_steps() {
+        let mut random = Random::new(3);
+        for _ in 0..150 {
+            let first = any_first(&mut random);
+            let capacity = capacity_of(&words_of(&first));
+            check_capacity(&first, capacity, capacity / 8);
+            for length in [0, 1, 82, random.between(0, capacity / 8)] {
+                outcome(&first, &any_record(&mut random, length));
+            }
+        }
+    }
+
+    #[test]
+    fn every_record_length_over_a_few_pages() {
+        let mut random = Random::new(4);
+        for first in [first_page(0), first_page(SPARSE_VALUE), any_first(&mut random)] {
+            let filled = filled_page(&first);
+            let capacity = capacity_of(&words_of(&first));
+            for length in 0..=130 {
+                let record = any_record(&mut random, length);
+                if 8 * length <= capacity {
+                    outcome(&first, &record);
+                } else {
+                    let mut page = filled.clone();
+                    assert_eq!(write_second(&mut page, &record), Err(Refusal::record_length(capacity)));
+                    assert_eq!(page, filled);
+                }
+            }
+        }
     }
 
     #[test]
@@ -208,6 +297,7 @@ mod tests {
             let first = first_page(value);
             let (empty, zero) = (outcome(&first, &[]), outcome(&first, &[0]));
             assert_eq!(empty[3..], zero[3..]);
+            assert_eq!(empty[3..], filled_page(&first)[3..]);
             assert_eq!((empty[1], zero[1]), (0, 1));
         }
     }
@@ -234,6 +324,101 @@ mod tests {
         let words = words_of(&page);
         assert!(words.iter().all(|cells| cells[0] && cells[45]));
         assert!(page_capacity(&page).is_ok());
+        assert!(page_capacity(&filled_page(&page)).is_ok());
+    }
+
+    /// The fill adds nothing to such a page: only its state tells whether it is filled.
+    #[test]
+    fn a_page_that_the_fill_leaves_but_for_its_state() {
+        let first = first_page(SPARSE_VALUE);
+        let filled = filled_page(&first);
+        assert_eq!(first[1..], filled[1..]);
+        assert_eq!(fill_page(&mut filled.clone()), Err(Refusal::STATE));
+        assert_eq!(write_second(&mut first.clone(), &[]), Err(Refusal::STATE));
+    }
+
+    #[test]
+    fn every_state_but_the_one_asked_for() {
+        let (first, filled) = (first_page(SPARSE_VALUE), filled_page(&first_page(SPARSE_VALUE)));
+        for state in 0..=255 {
+            let [mut to_fill, mut to_write] = [&first, &filled].map(|page| [&[state], &page[1..]].concat());
+            let refused = |asked: &[u8]| if asked.contains(&state) { Ok(0) } else { Err(Refusal::STATE) };
+            assert_eq!(page_capacity(&to_fill).map(|_| 0), refused(&[0x01, 0x03]));
+            assert_eq!(page_capacity(&to_write).map(|_| 0), refused(&[0x01, 0x03]));
+            assert_eq!(fill_page(&mut to_fill), refused(&[0x01]));
+            assert_eq!(write_second(&mut to_write, &[0; 82]), refused(&[0x03]));
+        }
+    }
+
+    /// Writing and page capacity refuse a page in state 03 by the same; writing does so whatever the record's length is,
+    /// and leaves the page.
+    fn check_refused(page: &[u8], refusal: Refusal) {
+        assert_eq!(page_capacity(page), Err(refusal));
+        for length in [0, 1, 127, 1_000] {
+            let mut after = page.to_vec();
+            assert_eq!(write_second(&mut after, &vec![0xFF; length]), Err(refusal));
+            assert_eq!(after, page);
+        }
+    }
+
+    #[test]
+    fn header_bytes_of_a_filled_page() {
+        let filled = filled_page(&first_page(77));
+        for (place, byte) in [(1, 1), (1, 82), (1, 255), (2, 1), (2, 0x80)] {
+            let mut page = filled.clone();
+            page[place] = byte;
+            check_refused(&page, Refusal::HEADER);
+            // 6 comes before 7.
+            page[3..].fill(0);
+            check_refused(&page, Refusal::HEADER);
+        }
+    }
+
+    /// A separator that is missing, a data cell that is set, and any other cell that is set.
+    #[test]
+    fn every_cell_of_a_filled_page_flipped() {
+        for value in [0, 77, SPARSE_VALUE, 2_971_215_074] {
+            let filled = filled_page(&first_page(value));
+            for place in 0..WORDS * CELLS {
+                let mut page = filled.clone();
+                page[3 + place / 8] ^= 0x80 >> (place % 8);
+                assert_eq!(page_capacity(&page), Err(Refusal::word(place / CELLS)));
+            }
+        }
+    }
+
+    /// The lowest index counts, whatever is wrong with the two words.
+    #[test]
+    fn two_flaws_on_a_filled_page() {
+        let filled = filled_page(&first_page(3));
+        let (full, hole) = ([true; CELLS], [false; CELLS]);
+        for (low, high) in [(full, hole), (hole, full), (full, full), (hole, hole)] {
+            for (first, second) in [(0, 1), (0, 43), (20, 21), (42, 43)] {
+                let mut words = words_of(&filled);
+                (words[first], words[second]) = (low, high);
+                let mut page = filled.clone();
+                put_words(&mut page, &words);
+                check_refused(&page, Refusal::word(first));
+            }
+        }
+    }
+
+    /// "Every filled page is what the fill makes of some first-round page."
+    #[test]
+    fn filled_pages_of_any_words_come_from_first_round_pages() {
+        let mut random = Random::new(5);
+        for _ in 0..200 {
+            let mut filled = vec![0; PAGE_BYTES];
+            filled[0] = FILLED;
+            let words: Words = std::array::from_fn(|_| unwritten(&mut random));
+            put_words(&mut filled, &words);
+            assert!(page_capacity(&filled).is_ok());
+            // The fill sets cell 0 again.
+            let mut first = vec![0; PAGE_BYTES];
+            first[0] = FIRST_ROUND;
+            put_words(&mut first, &words.map(|cells| std::array::from_fn(|cell| cell > 0 && cells[cell])));
+            assert_eq!(filled_page(&first), filled);
+        }
     }
 
     #[test]

@@ -6,7 +6,10 @@ use crate::cases::damage::{any_word_call, choices, combined};
 use crate::cases::files::CONTENTS;
 use crate::cases::lengths::{resized, FAR_RECORD_LENGTHS, WRONG_PAGE_LENGTHS};
 use crate::cases::pages::*;
-use crate::cases::words::{any_value, sum_too_large, with_hole, with_neighbours, Hole, LISTED_VALUES, SPARSE_VALUE};
+use crate::cases::words::{
+    any_value, sum_too_large, with_bare_hole, with_hole, with_neighbours, with_one_data_cell, Hole, EDGE_VALUE,
+    LISTED_VALUES, ODD_VALUE, SPARSE_VALUE,
+};
 use crate::file::file_bytes;
 use crate::page::{data_cells_of, words_of, FIRST_BYTES, PAGE_BYTES, WORDS};
 use crate::random::Random;
@@ -21,11 +24,8 @@ const LENGTH_MOST: usize = 1_024;
 /// Words at the ends of a page, at the ends of a byte, and between.
 const INDICES: [usize; 8] = [0, 1, 3, 4, 21, 22, 42, 43];
 
-/// The value whose word has cells 0 and 45 set: the set cells of two such words touch, and are legal.
-const EDGE_VALUE: u32 = 2_971_215_074;
-
 /// The value whose word has cell 0 alone set, between its neighbours.
-const CELL_0_VALUES: [u32; 3] = [2_971_215_072, 2_971_215_073, EDGE_VALUE];
+const CELL_0_VALUES: [u32; 3] = [ODD_VALUE, 2_971_215_073, EDGE_VALUE];
 
 /// The calls made so far.
 struct Script {
@@ -40,14 +40,18 @@ pub fn calls() -> Vec<Call> {
     script.listed_pages();
     script.both_rounds();
     script.capacities();
+    script.record_lengths();
     script.far_records();
     script.illegal_words();
     script.holes();
+    script.flaws();
+    script.two_flaws();
     script.flips();
     script.data_cells();
     script.headers();
     script.not_blank();
     script.other_rounds();
+    script.alike_pages();
     script.page_lengths();
     script.data_lengths();
     script.first_outputs();
@@ -89,11 +93,24 @@ impl Script {
         first
     }
 
-    /// Writes any record of the one length over the page, and reads it back into an output of the other.
-    fn second_round(&mut self, first: &[u8], length: usize, output: usize) {
+    /// Fills the page, and measures it once more; returns the filled page.
+    fn filling(&mut self, first: &[u8]) -> Vec<u8> {
+        let filled = self.page(Entry::FillPage, first, Vec::new());
+        self.page_with(Entry::PageCapacity, &filled, 0);
+        filled
+    }
+
+    /// Writes any record of the one length over the filled page, and reads it back into an output of the other.
+    fn writing(&mut self, filled: &[u8], length: usize, output: usize) {
         let record = self.random.bytes(length);
-        let second = self.page(Entry::Rewrite, first, record);
+        let second = self.page(Entry::WriteSecond, filled, record);
         self.page_with(Entry::ReadSecond, &second, output);
+    }
+
+    /// Fills the page, writes any record of the one length over it, and reads it back into an output of the other.
+    fn second_round(&mut self, first: &[u8], length: usize, output: usize) {
+        let filled = self.filling(first);
+        self.writing(&filled, length, output);
     }
 
     fn word(&mut self, word: u64) {
@@ -118,10 +135,11 @@ impl Script {
     /// Every unmarked value of document 01's list.
     fn listed_pages(&mut self) {
         for (value, most) in [(0, 126), (SPARSE_VALUE, 82)] {
-            let page = self.first_round(&[value; WORDS], FIRST_BYTES);
+            let first = self.first_round(&[value; WORDS], FIRST_BYTES);
+            let filled = self.filling(&first);
             for record in [vec![0xFF; most], vec![0xFF; most + 1], Vec::new(), vec![0]] {
                 let length = record.len();
-                let after = self.page(Entry::Rewrite, &page, record);
+                let after = self.page(Entry::WriteSecond, &filled, record);
                 self.page_with(Entry::ReadSecond, &after, length);
             }
         }
@@ -145,16 +163,38 @@ impl Script {
                 std::array::from_fn(|index| if index * 7 % WORDS < sparse { SPARSE_VALUE } else { index as u32 });
             let first = first_page(&values);
             let most = most_bytes(&first);
-            self.page_with(Entry::Rewrite, &first, most + 1);
-            self.second_round(&first, most, most);
+            let filled = self.filling(&first);
+            self.page_with(Entry::WriteSecond, &filled, most + 1);
+            self.writing(&filled, most, most);
+        }
+    }
+
+    /// Records about the ends of what fits, over the least and the most capacity, and records that leave no data cell.
+    fn record_lengths(&mut self) {
+        for value in [SPARSE_VALUE, 0] {
+            let filled = filled_page(&first_page(&[value; WORDS]));
+            for length in [0, 1, 82, 83, 126, 127] {
+                self.page_with(Entry::WriteSecond, &filled, length);
+            }
+        }
+        self.exact_fits();
+    }
+
+    /// Capacities of 1,008 and of 688 bits, which a record of 126 and of 86 bytes takes whole.
+    fn exact_fits(&mut self) {
+        for (value, most) in [(0, 126), (SPARSE_VALUE, 86)] {
+            let first = first_page(&std::array::from_fn(|index| if index % 11 == 5 { 1 } else { value }));
+            let filled = filled_page(&first);
+            self.writing(&filled, most, most);
+            self.page_with(Entry::WriteSecond, &filled, most + 1);
         }
     }
 
     /// Records far too long.
     fn far_records(&mut self) {
         for length in FAR_RECORD_LENGTHS.into_iter().filter(|&length| length <= LENGTH_MOST) {
-            let first = any_first(&mut self.random);
-            self.page_with(Entry::Rewrite, &first, length);
+            let filled = any_filled(&mut self.random);
+            self.page_with(Entry::WriteSecond, &filled, length);
         }
     }
 
@@ -188,12 +228,43 @@ impl Script {
         }
     }
 
+    /// Chosen words of a filled page that are not well formed, or have a data cell set, or all of them; and the page's
+    /// first or last data cell set.
+    fn flaws(&mut self) {
+        for (turn, index) in INDICES.into_iter().enumerate() {
+            let filled = any_filled(&mut self.random);
+            let holes = Hole::ALL.map(|hole| with_bare_hole(&mut self.random, hole));
+            let hole_and_data = with_hole(&mut self.random, Hole::Middle);
+            let data = [with_one_data_cell(&mut self.random), [true; CELLS]];
+            let flaws = holes.into_iter().chain([[false; CELLS], hole_and_data]).chain(data);
+            for (place, cells) in flaws.enumerate() {
+                let page = with_word(filled.clone(), index, cells);
+                self.page_with(Entry::OF_FILLED_PAGES[(turn + place) % 2], &page, 20);
+            }
+            let last = data_cells_of(&words_of(&filled)).len() - 1;
+            let page = with_data_cell(filled, if turn % 4 < 2 { 0 } else { last });
+            self.page_with(Entry::OF_FILLED_PAGES[turn % 2], &page, turn);
+        }
+    }
+
+    /// A hole before a set data cell, and after one: the lowest of two such words counts.
+    fn two_flaws(&mut self) {
+        for (turn, (hole, written)) in [(0, 1), (1, 0), (42, 43), (43, 42)].into_iter().enumerate() {
+            let bare_hole = with_bare_hole(&mut self.random, Hole::ALL[turn % 3]);
+            let page = with_word(any_filled(&mut self.random), hole, bare_hole);
+            let page = with_word(page, written, with_one_data_cell(&mut self.random));
+            Entry::OF_FILLED_PAGES.into_iter().for_each(|entry| self.page_with(entry, &page, 20));
+        }
+    }
+
     /// Pages with one bit flipped.
     fn flips(&mut self) {
         for turn in 0..14 {
             let bit = self.random.between(24, 8 * PAGE_BYTES - 1);
             let first = with_flip(any_first(&mut self.random), bit);
             self.page_with(Entry::OF_FIRST_PAGES[turn % 3], &first, 30);
+            let filled = with_flip(any_filled(&mut self.random), bit);
+            self.page_with(Entry::OF_FILLED_PAGES[turn % 2], &filled, 30);
             let second = with_flip(any_second(&mut self.random), bit);
             self.page_with(Entry::ReadSecond, &second, 126);
         }
@@ -222,6 +293,10 @@ impl Script {
             for entry in Entry::OF_FIRST_PAGES {
                 self.page_with(entry, &first, 9);
             }
+            let filled = with_byte(any_filled(&mut self.random), place, byte);
+            for entry in Entry::OF_FILLED_PAGES {
+                self.page_with(entry, &filled, 9);
+            }
             let second = with_byte(any_second(&mut self.random), place, byte);
             self.page_with(Entry::ReadSecond, &second, 126);
         }
@@ -235,12 +310,25 @@ impl Script {
         }
     }
 
-    /// Valid pages of another round than the entry's.
+    /// Valid pages of another state than the entry's.
     fn other_rounds(&mut self) {
-        let (first, second) = (any_first(&mut self.random), any_second(&mut self.random));
-        self.page_with(Entry::WriteFirst, &first, FIRST_BYTES);
-        self.page_with(Entry::ReadFirst, &second, FIRST_BYTES);
-        self.page_with(Entry::ReadSecond, &first, 126);
+        let pages = [blank, any_first, any_filled, any_second].map(|page| page(&mut self.random));
+        for (entry, page) in Entry::OF_PAGES.into_iter().flat_map(|entry| pages.iter().map(move |page| (entry, page))) {
+            if !entry.states().contains(&page[0]) {
+                self.page_with(entry, page, if entry == Entry::WriteSecond { 1 } else { FIRST_BYTES });
+            }
+        }
+    }
+
+    /// Cells that are sound in states 01, 03 and 07 alike, so that the state alone decides.
+    fn alike_pages(&mut self) {
+        let first = first_page(&std::array::from_fn(|index| [SPARSE_VALUE, ODD_VALUE][index % 2]));
+        for state in [0x00, 0x01, 0x02, 0x03, 0x07] {
+            let page = with_byte(first.clone(), 0, state);
+            for entry in [Entry::PageCapacity, Entry::FillPage, Entry::WriteSecond, Entry::ReadSecond] {
+                self.page_with(entry, &page, 20);
+            }
+        }
     }
 
     /// Wrong lengths of the page.
@@ -250,6 +338,11 @@ impl Script {
                 let first = any_first(&mut self.random);
                 let page = resized(&mut self.random, first, length);
                 self.page_with(entry, &page, 11);
+            }
+            for entry in Entry::OF_FILLED_PAGES {
+                let filled = any_filled(&mut self.random);
+                let page = resized(&mut self.random, filled, length);
+                self.page_with(entry, &page, length % 3);
             }
             let second = any_second(&mut self.random);
             let page = resized(&mut self.random, second, length);
@@ -345,7 +438,8 @@ impl Script {
     }
 }
 
-/// The binary file: for each call a header of 13 bytes, the page or pages, and the other buffer.
+/// The binary file: for each call a header of 13 bytes (the entry's number, the argument, and the two lengths), the page
+/// or pages, and the other buffer, which has length 0 where the entry takes none.
 pub fn input_of(calls: &[Call]) -> Vec<u8> {
     let mut bytes = Vec::new();
     for call in calls {
@@ -383,23 +477,25 @@ pub fn text_of(calls: &[Call]) -> String {
 #[cfg(test)]
 mod tests {
     use super::*;
-    use crate::answer::Refusal;
+    use crate::answer::{Answer, Refusal};
+    use crate::page::FILLED;
+    use crate::word::{read_back, unwritten, well_formed, Cells};
     use std::collections::HashSet;
+    use std::sync::OnceLock;
 
     #[test]
     fn size_and_variety() {
         let calls = calls();
-        assert_eq!(calls.len(), 689);
+        assert_eq!(calls.len(), 937);
         assert!(text_of(&calls).len() < 250_000);
         assert!(calls.iter().all(|call| call.page.len().max(call.other.len()) <= LENGTH_MOST));
         let pages: HashSet<_> = calls.iter().map(|call| &call.page).filter(|page| page.len() == PAGE_BYTES).collect();
-        assert_eq!(pages.len(), 303);
+        assert_eq!(pages.len(), 441);
     }
 
-    /// The calls before them stay as they were.
     #[test]
     fn the_calls_of_write_file_come_last() {
-        assert!((0..).zip(calls()).all(|(index, call)| (call.entry == Entry::WriteFile) == (index >= 663)));
+        assert!((0..).zip(calls()).all(|(index, call)| (call.entry == Entry::WriteFile) == (index >= 911)));
     }
 
     /// The pages' length, the output's, and the answer.
@@ -447,14 +543,114 @@ mod tests {
         let holds = |call: &Call, value: u32| call.other.chunks(4).any(|four| four == value.to_be_bytes());
         let holds_all = |call: &Call| ABOUT_CELL_0.iter().all(|&(value, ..)| holds(call, value));
         let starts = |turns: &&[Call]| turns[0].entry == Entry::WriteFirst && holds_all(&turns[0]);
-        let before = calls.windows(5).find(starts).expect("a first record with all three values");
+        let before = calls.windows(7).find(starts).expect("a first record with all three values");
         let mut after = before.to_vec();
         let answers: Vec<_> = after.iter_mut().map(Call::perform).collect();
-        assert!(before.iter().map(|call| call.entry).eq(Entry::OF_PAGES));
-        assert_eq!(answers, [Ok(0), Ok(0), Ok(983), Ok(0), Ok(122)]);
+        let entries: Vec<_> = before.iter().map(|call| call.entry.number()).collect();
+        assert_eq!(entries, [4, 5, 6, 10, 6, 7, 8]);
+        assert_eq!(answers, [Ok(0), Ok(0), Ok(983), Ok(0), Ok(983), Ok(0), Ok(122)]);
         // Each call takes the page that the call before it leaves, and both records are read back.
-        assert!((1..5).all(|turn| before[turn].page == after[turn - 1].page));
-        assert_eq!((&after[1].other, &after[4].other), (&before[0].other, &before[3].other));
+        assert!((1..7).all(|turn| before[turn].page == after[turn - 1].page));
+        assert_eq!((&after[1].other, &after[6].other), (&before[0].other, &before[5].other));
+    }
+
+    /// What `class` tells of each call of the entry, as it is before its performance, and its answer.
+    fn met<T>(entry: Entry, class: fn(&Call) -> T) -> Vec<(T, Answer)> {
+        static CALLS: OnceLock<Vec<Call>> = OnceLock::new();
+        let of_entry = CALLS.get_or_init(calls).iter().filter(|call| call.entry == entry);
+        of_entry.map(|call| (class(call), call.clone().perform())).collect()
+    }
+
+    fn state(call: &Call) -> Option<u8> {
+        call.page.first().copied()
+    }
+
+    #[test]
+    fn both_capacity_ends_in_both_states() {
+        let met = met(Entry::PageCapacity, state);
+        for (state, capacity) in [(1, 660), (1, 1_012), (3, 660), (3, 1_012)] {
+            assert!(met.contains(&(Some(state), Ok(capacity))), "never {capacity} in state {state}");
+        }
+    }
+
+    #[test]
+    fn pages_of_another_state() {
+        let (fills, writes) = (met(Entry::FillPage, state), met(Entry::WriteSecond, state));
+        for other in [0x00, 0x02, 0x07] {
+            assert!(fills.contains(&(Some(other), Err(Refusal::STATE))), "fill page, state {other}");
+            assert!(writes.contains(&(Some(other), Err(Refusal::STATE))), "write second, state {other}");
+        }
+        assert!(fills.contains(&(Some(0x03), Err(Refusal::STATE))) && fills.contains(&(Some(0x01), Ok(0))));
+        assert!(writes.contains(&(Some(0x01), Err(Refusal::STATE))) && writes.contains(&(Some(0x03), Ok(0))));
+    }
+
+    /// Records that fit the least and the most capacity, one byte more, and an empty record with an empty page.
+    #[test]
+    fn records_of_every_length_class() {
+        let met = met(Entry::WriteSecond, |call| (call.page.len(), call.other.len()));
+        let least = [(0, Ok(0)), (1, Ok(0)), (82, Ok(0)), (83, Err(Refusal::record_length(660)))];
+        let most = [(83, Ok(0)), (126, Ok(0)), (127, Err(Refusal::record_length(1_012)))];
+        let over_pages = least.into_iter().chain(most).map(|(length, answer)| ((PAGE_BYTES, length), answer));
+        let exact = [(127, 1_008), (87, 688)];
+        let exact = exact.map(|(length, capacity)| ((PAGE_BYTES, length), Err(Refusal::record_length(capacity))));
+        for one in over_pages.chain(exact).chain([((0, 0), Err(Refusal::PAGE_LENGTH))]) {
+            assert!(met.contains(&one), "never {one:?}");
+        }
+    }
+
+    /// Byte 1 and byte 2 of a filled page, each by itself.
+    #[test]
+    fn header_bytes_of_a_filled_page() {
+        for entry in Entry::OF_FILLED_PAGES {
+            let met = met(entry, |call| call.page.get(..3).map(<[u8]>::to_vec));
+            for header in [[3, 1, 0], [3, 126, 0], [3, 255, 0], [3, 0, 1], [3, 0, 128]] {
+                assert!(met.contains(&(Some(header.to_vec()), Err(Refusal::HEADER))), "{} {header:?}", entry.name());
+            }
+        }
+    }
+
+    /// The words of a filled page that are not unwritten: whether each is well formed, and how many data cells are set.
+    fn flaws(call: &Call) -> Vec<(bool, usize)> {
+        if call.page.len() != PAGE_BYTES || call.page[0] != FILLED {
+            return Vec::new();
+        }
+        let set = |cells: &Cells| read_back(cells).into_iter().filter(|&cell| cells[cell]).count();
+        let flawed = words_of(&call.page).into_iter().filter(|cells| !unwritten(cells));
+        flawed.map(|cells| (well_formed(&cells), set(&cells))).collect()
+    }
+
+    /// A hole alone and a data cell set alone, in the first and the last word; and the lower of two, whichever it is.
+    #[test]
+    fn flaws_in_the_first_and_the_last_words() {
+        let (hole, written) = ((false, 0), (true, 1));
+        let one = [vec![hole], vec![written]].into_iter().flat_map(|flaws| [(flaws.clone(), 0), (flaws, 43)]);
+        let two = [vec![hole, written], vec![written, hole]];
+        let two = two.into_iter().flat_map(|flaws| [(flaws.clone(), 0), (flaws, 42)]);
+        let met = Entry::OF_FILLED_PAGES.map(|entry| (entry, met(entry, flaws)));
+        for (flaws, index) in one.chain(two) {
+            let wanted = (flaws, Err(Refusal::word(index)));
+            for (entry, met) in &met {
+                assert!(met.contains(&wanted), "{}: never {wanted:?}", entry.name());
+            }
+        }
+    }
+
+    #[test]
+    fn a_word_with_every_cell_set() {
+        for entry in Entry::OF_FILLED_PAGES {
+            let full = |(flaws, answer): (Vec<_>, Answer)| flaws == [(true, 23)] && number(answer) == 7;
+            assert!(met(entry, flaws).into_iter().any(full), "{}", entry.name());
+        }
+    }
+
+    /// Pages are filled, measured right after it, and written over.
+    #[test]
+    fn filled_pages_are_written() {
+        let calls = calls();
+        let fills = calls.windows(2).filter(|two| two[0].entry == Entry::FillPage && two[0].clone().perform().is_ok());
+        let written = |page: &Vec<u8>| calls.iter().any(|call| call.entry == Entry::WriteSecond && call.page == *page);
+        let chained = fills.filter(|two| two[1].entry == Entry::PageCapacity && written(&two[1].page));
+        assert!(chained.count() >= 29);
     }
 
     /// Each entry is accepted, and refused by each of its numbers.

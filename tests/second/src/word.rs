@@ -140,6 +140,11 @@ pub fn well_formed(cells: &Cells) -> bool {
     (0..CELLS).all(|cell| !could_be_set(&separators, cell))
 }
 
+/// A word as filling leaves it, and as writing asks for it: neither "not well formed" nor with "a data cell set".
+pub fn unwritten(cells: &Cells) -> bool {
+    well_formed(cells) && read_back(cells).into_iter().all(|cell| !cells[cell])
+}
+
 /// "Takes a 32-bit value, returns its legal word. It never refuses."
 pub fn encode_word(value: u32) -> Answer {
     Ok(number_of(&legal_word(value)))
@@ -255,6 +260,48 @@ mod tests {
     fn a_set_data_cell_is_not_the_next_separator() {
         assert_eq!(read_back(&cells_of(with([0, 1, 2]))), [1, 3]);
         assert_eq!(read_back(&cells_of(with([45]))), []);
+    }
+
+    /// The word with one of its cells flipped.
+    fn flipped(mut cells: Cells, cell: usize) -> Cells {
+        cells[cell] = !cells[cell];
+        cells
+    }
+
+    /// Of a filled word, each cell counts: a separator that is missing, a data cell that is set, and a cell before the
+    /// first separator or between a data cell and the next separator, which then is a separator itself.
+    #[test]
+    fn a_filled_word_is_unwritten_and_stays_so_with_no_other_cell() {
+        for value in [0, 1, 2, 3, 77, 243, 3_889_371_024, u32::MAX] {
+            let cells = filled(&legal_word(value));
+            assert!(unwritten(&cells), "{value}");
+            for cell in 0..CELLS {
+                let other = flipped(cells, cell);
+                let data = data_cells(&cells).contains(&cell);
+                assert!(!unwritten(&other), "{value}, cell {cell}");
+                assert!(!data || well_formed(&other), "{value}, cell {cell}");
+            }
+        }
+    }
+
+    /// The word with every cell set is well formed, and each of its data cells is set.
+    #[test]
+    fn a_full_word_is_well_formed_and_written() {
+        assert!(well_formed(&[true; CELLS]));
+        assert_eq!(read_back(&[true; CELLS]).len(), 23);
+        assert!(!unwritten(&[true; CELLS]));
+    }
+
+    /// "Every such word comes from some legal first word": without cell 0, which the fill sets again, its sum is small.
+    #[test]
+    fn an_unwritten_word_is_the_fill_of_a_legal_word() {
+        for word in [0x2AAA_AAAA_AAAA, 0x1555_5555_5555, 0x2492_4924_9249, 0x2AAA_AAAA_AAA9, 0x2AAA_AAAA_AAA5] {
+            let cells = cells_of(word);
+            assert!(unwritten(&cells), "{word:#x}");
+            let first = cells_of(word & !(1 << 45));
+            assert!(legal(&first), "{word:#x}");
+            assert_eq!(number_of(&filled(&first)), word);
+        }
     }
 
     #[test]

@@ -35,7 +35,8 @@ extern "C" {
     fn wom_write_first(page: *mut u8, page_length: usize, data: *const u8, data_length: usize) -> u64;
     fn wom_read_first(page: *const u8, page_length: usize, out: *mut u8, out_length: usize) -> u64;
     fn wom_page_capacity(page: *const u8, page_length: usize) -> u64;
-    fn wom_rewrite(page: *mut u8, page_length: usize, record: *const u8, record_length: usize) -> u64;
+    fn wom_fill_page(page: *mut u8, page_length: usize) -> u64;
+    fn wom_write_second(page: *mut u8, page_length: usize, record: *const u8, record_length: usize) -> u64;
     fn wom_read_second(page: *const u8, page_length: usize, out: *mut u8, out_length: usize) -> u64;
     fn wom_write_file(device: u32, pages: *const u8, pages_length: usize, out: *mut u8, out_length: usize) -> u64;
 }
@@ -53,7 +54,8 @@ fn perform(call: &Call, page: Span, other: Span) -> u64 {
             Entry::WriteFirst => wom_write_first(page.start, page.length, other.start, other.length),
             Entry::ReadFirst => wom_read_first(page.start, page.length, other.start, other.length),
             Entry::PageCapacity => wom_page_capacity(page.start, page.length),
-            Entry::Rewrite => wom_rewrite(page.start, page.length, other.start, other.length),
+            Entry::FillPage => wom_fill_page(page.start, page.length),
+            Entry::WriteSecond => wom_write_second(page.start, page.length, other.start, other.length),
             Entry::ReadSecond => wom_read_second(page.start, page.length, other.start, other.length),
             Entry::WriteFile => {
                 wom_write_file(call.argument as u32, page.start, page.length, other.start, other.length)
@@ -162,7 +164,7 @@ impl Kind {
             }
             Kind::Bytes => written.spoil_buffer(),
             Kind::Kept => kept.spoil_buffer(),
-            Kind::Canary => entry.takes_buffers() && kept.spoil_canary(),
+            Kind::Canary => entry.takes_other() && kept.spoil_canary(),
             _ => false,
         }
     }
@@ -261,7 +263,7 @@ impl Run {
         }
         self.tally.mark(case);
         let given = Outcome::given(call, case.number);
-        self.coverage.count(entry, case.place, answer);
+        self.coverage.count(call, case.place, answer);
         self.tally.compare_answers(case, expected.answer, given.answer);
         if entry.takes_buffers() {
             self.tally.compare_fenced(case, entry.page_name(), &expected.page, &given.page);
@@ -302,7 +304,7 @@ impl Run {
         let page = self.planted_page(page, place);
         self.tally.mark(&case);
         let answer = perform(call, page, other);
-        self.coverage.count(entry, place, expected.answer);
+        self.coverage.count(call, place, expected.answer);
         let spoiled = self.takes_plant(Kind::Guarded, !call.page.is_empty()).then(|| expected.spoiled());
         self.compare_guarded(&case, spoiled.as_ref().unwrap_or(expected), answer, side);
     }
@@ -344,7 +346,7 @@ impl Run {
         let (page, other) = (self.far_page(far), self.far_other(far, touched));
         self.tally.mark(&case);
         let answer = perform(&far.near, page, other);
-        self.coverage.count(case.entry, case.place, expected.answer);
+        self.coverage.count(&far.near, case.place, expected.answer);
         let spoil = u64::from(self.takes_plant(Kind::Far, true));
         self.tally.compare_answers(&case, packed(expected.answer) ^ spoil, answer);
         self.compare_far(&case, far, &expected, touched);

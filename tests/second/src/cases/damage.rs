@@ -2,11 +2,13 @@
 
 use super::files::{any_device, any_pages};
 use super::lengths::{resized, wrong_data_length, wrong_page_length, wrong_pages_length};
-use super::pages::{any_first, any_record, blank, most_bytes, second_from, with_data_cell, with_word};
+use super::pages::{
+    any_filled, any_first, any_record, blank, most_bytes, second_from, with_data_cell, with_flaw, with_word,
+};
 use super::words::{any_argument, any_value, illegal, sum_too_large, with_hole, with_neighbours, Hole};
 use crate::call::{Call, Entry};
 use crate::file::file_bytes;
-use crate::page::{data_cells_of, words_of, FIRST_BYTES, FIRST_ROUND, PAGE_BYTES, SECOND_ROUND, WORDS};
+use crate::page::{data_cells_of, words_of, FILLED, FIRST_BYTES, FIRST_ROUND, PAGE_BYTES, WORDS};
 use crate::random::Random;
 use crate::word::{cells_of, legal_word, number_of, CELLS};
 
@@ -18,12 +20,17 @@ pub fn sound(random: &mut Random, entry: Entry) -> Call {
             Call::of_word(entry, number_of(&legal_word(any_value(random))))
         }
         Entry::WriteFirst => Call::of_page(entry, blank(random), random.bytes(FIRST_BYTES)),
-        Entry::ReadFirst | Entry::PageCapacity => {
+        Entry::ReadFirst => {
             let longer = random.below(3);
             Call::of_page(entry, any_first(random), random.bytes(FIRST_BYTES + longer))
         }
-        Entry::Rewrite => {
-            let page = any_first(random);
+        Entry::PageCapacity => {
+            let page = if random.one_in(2) { any_first(random) } else { any_filled(random) };
+            Call::of_page(entry, page, Vec::new())
+        }
+        Entry::FillPage => Call::of_page(entry, any_first(random), Vec::new()),
+        Entry::WriteSecond => {
+            let page = any_filled(random);
             let length = random.between(0, most_bytes(&page));
             Call::of_page(entry, page, any_record(random, length))
         }
@@ -56,12 +63,11 @@ fn resize_page(random: &mut Random, call: &mut Call, wrong: fn(&mut Random) -> u
     call.page = resized(random, page, length);
 }
 
-/// Any state but the one that the entry asks for.
+/// Any state but those that the entry asks for.
 fn set_state(random: &mut Random, call: &mut Call) {
-    let asked = if call.entry == Entry::ReadSecond { SECOND_ROUND } else { FIRST_ROUND };
     let other = random.byte();
-    let state = random.pick(&[0x00, 0x01, 0x07, 0x03, 0xFF, other]);
-    call.page[0] = if state == asked { !asked } else { state };
+    let state = random.pick(&[0x00, 0x01, 0x03, 0x07, 0xFF, other]);
+    call.page[0] = if call.entry.states().contains(&state) { !state } else { state };
 }
 
 /// Byte 1 or byte 2 out of its range.
@@ -73,12 +79,15 @@ fn set_header(random: &mut Random, call: &mut Call) {
     }
 }
 
-/// A word that is not legal, or not well formed.
+/// A word that is not as the page's state asks for: not legal, not well formed, or with a data cell set.
 fn set_word(random: &mut Random, call: &mut Call) {
-    let hole = random.pick(&Hole::ALL);
-    let cells = if call.entry == Entry::ReadSecond { with_hole(random, hole) } else { illegal(random) };
     let page = std::mem::take(&mut call.page);
-    call.page = with_word(page, random.below(WORDS), cells);
+    let (index, hole) = (random.below(WORDS), random.pick(&Hole::ALL));
+    call.page = match page[0] {
+        FIRST_ROUND => with_word(page, index, illegal(random)),
+        FILLED => with_flaw(random, page),
+        _ => with_word(page, index, with_hole(random, hole)),
+    };
 }
 
 /// More bytes than fit.

@@ -3,7 +3,7 @@
 use super::damage::{combined, sound};
 use super::files::{any_device, any_pages};
 use super::lengths::resized;
-use super::pages::{any_first, first_page, second_page};
+use super::pages::{any_filled, filled_page, first_page, second_page};
 use super::words::SPARSE_VALUE;
 use crate::answer::Answer;
 use crate::call::{Call, Entry};
@@ -87,7 +87,7 @@ fn far_pages_lengths() -> Vec<usize> {
 fn low_part(entry: Entry) -> usize {
     match entry {
         Entry::WriteFirst => FIRST_BYTES,
-        Entry::Rewrite => 20,
+        Entry::WriteSecond => 20,
         _ => 0,
     }
 }
@@ -96,7 +96,7 @@ fn low_part(entry: Entry) -> usize {
 fn near_length(entry: Entry) -> usize {
     match entry {
         Entry::WriteFirst => FIRST_BYTES + 1,
-        Entry::Rewrite => SECOND_BYTES_MOST + 1,
+        Entry::WriteSecond => SECOND_BYTES_MOST + 1,
         _ => FIRST_BYTES,
     }
 }
@@ -176,20 +176,20 @@ impl Walk {
         }
     }
 
-    /// Records of which 8 times the length is cut, over this first-round page.
-    fn records_over(&mut self, first: &[u8]) {
+    /// Records of which 8 times the length is cut, over this filled page.
+    fn records_over(&mut self, filled: &[u8]) {
         for length in WRAPPED_LENGTHS {
-            let record = self.random.bytes(near_length(Entry::Rewrite));
-            let near = Call::of_page(Entry::Rewrite, first.to_vec(), record);
+            let record = self.random.bytes(near_length(Entry::WriteSecond));
+            let near = Call::of_page(Entry::WriteSecond, filled.to_vec(), record);
             self.calls.push(FarCall { near, page: None, other: Some(length) });
         }
     }
 
     /// Such records over the least, the most and a middle capacity.
     fn records(&mut self) {
-        let any = any_first(&mut self.random);
-        let firsts = [first_page(&[SPARSE_VALUE; WORDS]), first_page(&[0; WORDS]), any];
-        firsts.iter().for_each(|first| self.records_over(first));
+        let any = any_filled(&mut self.random);
+        let [least, most] = [SPARSE_VALUE, 0].map(|value| filled_page(&first_page(&[value; WORDS])));
+        [least, most, any].iter().for_each(|filled| self.records_over(filled));
     }
 
     /// A call of write file with any pages of this length, and an output of the other.
@@ -256,7 +256,7 @@ mod tests {
 
     #[test]
     fn the_number_of_calls() {
-        assert_eq!(calls().len(), 480);
+        assert_eq!(calls().len(), 490);
     }
 
     #[test]
@@ -282,7 +282,7 @@ mod tests {
             let wanted: &[u8] = match far.near.entry {
                 Entry::WriteFirst => &[1, 2],
                 Entry::ReadFirst => &[0, 1, 5, 6, 7],
-                Entry::Rewrite => &[1, 5, 6, 7, 8],
+                Entry::WriteSecond => &[1, 5, 6, 7, 8],
                 Entry::WriteFile => &[0, 13],
                 _ => &[0, 1, 5, 6, 7, 9],
             };
@@ -310,7 +310,7 @@ mod tests {
     #[test]
     fn lengths_that_look_otherwise_in_32_bits() {
         let low = |length: usize| length as u32 as usize;
-        for (entry, wanted) in [(Entry::WriteFirst, FIRST_BYTES), (Entry::Rewrite, 20), (Entry::ReadFirst, 0)] {
+        for (entry, wanted) in [(Entry::WriteFirst, FIRST_BYTES), (Entry::WriteSecond, 20), (Entry::ReadFirst, 0)] {
             let of_entry = |far: &FarCall| far.near.entry == entry && far.page.is_none();
             let met =
                 |far: FarCall| of_entry(&far) && far.other_length() > 1 << 32 && low(far.other_length()) == wanted;

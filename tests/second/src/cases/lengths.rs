@@ -81,7 +81,7 @@ pub fn other_length(random: &mut Random, entry: Entry, page: &[u8]) -> usize {
     match entry {
         Entry::WriteFirst => data_length(random),
         Entry::ReadFirst => output_length(random, FIRST_BYTES),
-        Entry::Rewrite => record_length(random),
+        Entry::WriteSecond => record_length(random),
         Entry::ReadSecond => output_length(random, page.get(1).map_or(0, |&length| usize::from(length))),
         Entry::WriteFile => output_length(random, file_bytes(page.len() / PAGE_BYTES)),
         _ => 0,

@@ -5,12 +5,17 @@ use super::damage::{choices, combined};
 use super::files::{any_device, numbered, CONTENTS, DEVICES};
 use super::lengths::{resized, FAR_PAGES_LENGTHS, FAR_RECORD_LENGTHS};
 use super::pages::*;
-use super::words::{sum_too_large, with_hole, with_neighbours, Hole, LISTED_VALUES, SPARSE_VALUE};
+use super::words::{
+    any_value, sum_too_large, unwritten, with_bare_hole, with_hole, with_neighbours, with_one_data_cell, Hole,
+    LISTED_VALUES, ODD_VALUE, SPARSE_VALUE,
+};
 use crate::call::{Call, Entry};
 use crate::file::{file_bytes, FILE_PAGES_MOST};
 use crate::page::{data_cells_of, words_of, FIRST_BYTES, PAGE_BYTES, SECOND_BYTES_MOST, WORDS};
 use crate::random::Random;
-use crate::word::{cells_with_sum, legal_word, number_of, weight, CELLS, LARGEST_SUM, LARGEST_VALUE};
+use crate::word::{
+    cells_with_sum, data_cells, legal_word, number_of, weight, Cells, CELLS, LARGEST_SUM, LARGEST_VALUE,
+};
 
 const SEED: u64 = 1_012;
 
@@ -21,6 +26,7 @@ struct Walk {
     /// A valid page of each state.
     blank: Vec<u8>,
     first: Vec<u8>,
+    filled: Vec<u8>,
     second: Vec<u8>,
 }
 
@@ -29,17 +35,23 @@ pub fn calls() -> Vec<Call> {
     let mut random = Random::new(SEED);
     let blank = blank(&mut random);
     let first = first_page(&[(); WORDS].map(|()| random.draw() as u32));
+    let filled = filled_page(&first);
     let second = second_page(&first, &random.bytes(60));
-    let mut walk = Walk { random, calls: Vec::new(), blank, first, second };
+    let mut walk = Walk { random, calls: Vec::new(), blank, first, filled, second };
     walk.values();
     walk.words();
     walk.headers();
+    walk.alike_pages();
     walk.illegal_words();
     walk.holes();
+    walk.flaws();
+    walk.two_flaws();
     walk.flips();
     walk.data_cells();
+    walk.fills();
     walk.named_lengths();
     walk.record_lengths();
+    walk.exact_fits();
     walk.output_lengths();
     walk.page_lengths();
     walk.data_lengths();
@@ -49,6 +61,11 @@ pub fn calls() -> Vec<Call> {
     walk.file_lengths();
     walk.pages_lengths();
     walk.calls
+}
+
+/// Every weight as a value, the one before it and the one after it.
+fn values_about_weights() -> impl Iterator<Item = u32> {
+    (0..CELLS).flat_map(|cell| [0, 1, 2].map(|more| (weight(cell) - 1) as u32 + more))
 }
 
 impl Walk {
@@ -65,14 +82,13 @@ impl Walk {
     /// Calls with the other buffer of a length that is not refused.
     fn pages(&mut self, entries: &[Entry], page: &[u8]) {
         for &entry in entries {
-            self.page(entry, page, if entry == Entry::Rewrite { 40 } else { FIRST_BYTES });
+            self.page(entry, page, if entry == Entry::WriteSecond { 40 } else { FIRST_BYTES });
         }
     }
 
     /// Values at every weight and beside it, listed values and the largest, and their words.
     fn values(&mut self) {
-        let weights = (0..CELLS).flat_map(|cell| [0, 1, 2].map(|more| (weight(cell) - 1) as u32 + more));
-        for value in weights.chain(LISTED_VALUES).chain([u32::MAX - 1, u32::MAX]) {
+        for value in values_about_weights().chain(LISTED_VALUES).chain([u32::MAX - 1, u32::MAX]) {
             self.calls.push(Call::of_word(Entry::EncodeWord, u64::from(value)));
             self.word(number_of(&legal_word(value)));
         }
@@ -88,12 +104,24 @@ impl Walk {
         [u64::MAX, (1 << CELLS) - 1, 1 << 32, LARGEST_VALUE].into_iter().for_each(|word| self.word(word));
     }
 
+    /// A valid page of each state.
+    fn bases(&self) -> [Vec<u8>; 4] {
+        [&self.blank, &self.first, &self.filled, &self.second].map(Vec::clone)
+    }
+
     /// Every value of each of bytes 0, 1 and 2 of a valid page of each state.
     fn headers(&mut self) {
-        for base in [self.blank.clone(), self.first.clone(), self.second.clone()] {
+        for base in self.bases() {
             for (place, byte) in (0..3).flat_map(|place| (0..=255).map(move |byte| (place, byte))) {
                 self.pages(&Entry::OF_PAGES, &with_byte(base.clone(), place, byte));
             }
+        }
+    }
+
+    /// Every state over cells that are sound in states 01, 03 and 07 alike.
+    fn alike_pages(&mut self) {
+        for base in [SPARSE_VALUE, ODD_VALUE].map(|value| first_page(&[value; WORDS])) {
+            (0..=255).for_each(|state| self.pages(&Entry::OF_PAGES, &with_byte(base.clone(), 0, state)));
         }
     }
 
@@ -120,17 +148,69 @@ impl Walk {
         }
     }
 
+    /// Words for a filled page, each with another flaw: holes with data and without, the first, a middle, the last and
+    /// every data cell set, no cell set, and every cell set. The last word is sound, with its separators anywhere.
+    fn flawed(&mut self) -> Vec<Cells> {
+        let holes = Hole::ALL.map(|hole| with_hole(&mut self.random, hole));
+        let bare = Hole::ALL.map(|hole| with_bare_hole(&mut self.random, hole));
+        let sound = unwritten(&mut self.random);
+        let data = data_cells(&sound);
+        let with = |set: &[usize]| std::array::from_fn(|cell| sound[cell] || set.contains(&cell));
+        let middle = data.len() / 2;
+        let written = [&data[..1], &data[middle..=middle], &data[data.len() - 1..], &data].map(with);
+        [&holes, &bare, &written[..], &[[false; CELLS], [true; CELLS], sound]].concat()
+    }
+
+    /// Every word of a filled page with each flaw.
+    fn flaws(&mut self) {
+        for index in 0..WORDS {
+            for cells in self.flawed() {
+                self.pages(&Entry::OF_FILLED_PAGES, &with_word(self.filled.clone(), index, cells));
+            }
+        }
+    }
+
+    /// A filled page with a hole in one word and a data cell set in another, and the other way round: every word with
+    /// the next, and with the last.
+    fn two_flaws(&mut self) {
+        let pairs = (0..WORDS - 1).flat_map(|low| [(low, low + 1), (low, WORDS - 1)]);
+        for (low, high) in pairs.flat_map(|(low, high)| [(low, high), (high, low)]) {
+            let hole = with_bare_hole(&mut self.random, Hole::Middle);
+            let written = with_one_data_cell(&mut self.random);
+            let page = with_word(with_word(self.filled.clone(), low, hole), high, written);
+            self.pages(&Entry::OF_FILLED_PAGES, &page);
+        }
+    }
+
     /// Every single bit of a valid page of each state flipped.
     fn flips(&mut self) {
+        let of_filled = [Entry::PageCapacity, Entry::FillPage, Entry::WriteSecond, Entry::ReadSecond];
         for bit in 0..8 * PAGE_BYTES {
             self.pages(&[Entry::WriteFirst], &with_flip(self.blank.clone(), bit));
             self.pages(&Entry::OF_FIRST_PAGES, &with_flip(self.first.clone(), bit));
+            self.pages(&of_filled, &with_flip(self.filled.clone(), bit));
             self.pages(&[Entry::ReadSecond], &with_flip(self.second.clone(), bit));
         }
     }
 
-    /// Every data cell set by itself, in the record or spare.
+    /// First-round pages of every value at a weight and beside it, and of any values: each is filled; both pages are
+    /// measured, and a record is written over the filled one.
+    fn fills(&mut self) {
+        for value in values_about_weights().chain(LISTED_VALUES).chain([ODD_VALUE, u32::MAX]) {
+            let mixed = std::array::from_fn(|index| if index % 2 == 0 { value } else { any_value(&mut self.random) });
+            for first in [first_page(&[value; WORDS]), first_page(&mixed)] {
+                self.pages(&[Entry::PageCapacity, Entry::FillPage], &first);
+                self.pages(&Entry::OF_FILLED_PAGES, &filled_page(&first));
+            }
+        }
+    }
+
+    /// Every data cell set by itself, on a filled page, and in a record or spare.
     fn data_cells(&mut self) {
+        let filled = filled_page(&first_page(&[0; WORDS]));
+        for place in 0..data_cells_of(&words_of(&filled)).len() {
+            self.pages(&Entry::OF_FILLED_PAGES, &with_data_cell(filled.clone(), place));
+        }
         for base in [second_page(&first_page(&[0; WORDS]), &[0; 20]), self.second.clone()] {
             for place in 0..data_cells_of(&words_of(&base)).len() {
                 self.pages(&[Entry::ReadSecond], &with_data_cell(base.clone(), place));
@@ -152,14 +232,30 @@ impl Walk {
     /// far beyond.
     fn record_lengths(&mut self) {
         for first in [first_page(&[SPARSE_VALUE; WORDS]), first_page(&[0; WORDS]), self.first.clone()] {
+            let filled = filled_page(&first);
             for length in 0..=130 {
-                self.page(Entry::Rewrite, &first, length);
+                self.page(Entry::WriteSecond, &filled, length);
                 if length <= most_bytes(&first) {
                     let outcome = second_page(&first, &self.random.bytes(length));
                     self.page(Entry::ReadSecond, &outcome, length);
                 }
             }
-            FAR_RECORD_LENGTHS.into_iter().for_each(|length| self.page(Entry::Rewrite, &first, length));
+            FAR_RECORD_LENGTHS.into_iter().for_each(|length| self.page(Entry::WriteSecond, &filled, length));
+        }
+    }
+
+    /// Up to 7 words of another capacity, so that the longest record that fits leaves 0 to 7 data cells: that record, its
+    /// outcome read back, and one byte more.
+    fn exact_fits(&mut self) {
+        let mixed = |value, others| std::array::from_fn(|index| if index < others { 1 } else { value });
+        for values in (0..8).flat_map(|others| [0, SPARSE_VALUE].map(|value| mixed(value, others))) {
+            let first = first_page(&values);
+            let most = most_bytes(&first);
+            let filled = filled_page(&first);
+            self.page(Entry::WriteSecond, &filled, most);
+            self.page(Entry::WriteSecond, &filled, most + 1);
+            let outcome = second_page(&first, &self.random.bytes(most));
+            self.page(Entry::ReadSecond, &outcome, most);
         }
     }
 
@@ -178,7 +274,7 @@ impl Walk {
     /// Every page length 0 to 520.
     fn page_lengths(&mut self) {
         for length in 0..=520 {
-            for base in [self.blank.clone(), self.first.clone(), self.second.clone()] {
+            for base in self.bases() {
                 let page = resized(&mut self.random, base, length);
                 self.pages(&Entry::OF_PAGES, &page);
             }
@@ -259,8 +355,8 @@ impl Walk {
 mod tests {
     use super::*;
     use crate::answer::{number, value, Answer};
-    use crate::page::{page_capacity, BLANK, FIRST_ROUND, SECOND_ROUND};
-    use crate::word::{decode_word, read_back, Cells};
+    use crate::page::{page_capacity, FILLED, FIRST_ROUND, SECOND_ROUND};
+    use crate::word::{decode_word, read_back, well_formed};
     use std::collections::HashSet;
     use std::fmt::Debug;
     use std::hash::Hash;
@@ -292,13 +388,9 @@ mod tests {
         }
     }
 
-    /// The state that the entry asks for, and the most that byte 1 may then be.
-    fn asked(entry: Entry) -> (u8, u8) {
-        match entry {
-            Entry::WriteFirst => (BLANK, 0),
-            Entry::ReadSecond => (SECOND_ROUND, 126),
-            _ => (FIRST_ROUND, 0),
-        }
+    /// Each page entry with each state that it asks for.
+    fn asked() -> impl Iterator<Item = (Entry, u8)> {
+        Entry::OF_PAGES.into_iter().flat_map(|entry| entry.states().iter().map(move |&state| (entry, state)))
     }
 
     /// Refused neither 1 nor 2, so that the page is looked at.
@@ -334,9 +426,9 @@ mod tests {
         }
     }
 
-    /// Which capacity a first-round page has.
-    fn capacity_kind(first: &[u8]) -> &'static str {
-        match page_capacity(first) {
+    /// Which capacity a filled page has.
+    fn capacity_kind(filled: &[u8]) -> &'static str {
+        match page_capacity(filled) {
             Ok(660) => "least",
             Ok(1_012) => "most",
             _ => "middle",
@@ -345,7 +437,7 @@ mod tests {
 
     #[test]
     fn the_number_of_calls() {
-        assert_eq!(answered().len(), 52_081);
+        assert_eq!(answered().len(), 80_322);
     }
 
     /// "cell 0 is worth 2971215073": that word alone, and its neighbours.
@@ -370,8 +462,8 @@ mod tests {
     /// Every page entry looks at both: write first asks that each byte be 0.
     #[test]
     fn every_byte_1_and_every_byte_2_under_a_sound_state() {
-        for entry in Entry::OF_PAGES {
-            let (state, most) = asked(entry);
+        for (entry, state) in asked() {
+            let most = if state == SECOND_ROUND { 126 } else { 0 };
             let sound = |call: &Call, answer| sound_lengths(answer) && call.page[0] == state;
             occurs(entry, 0..=255, |call, answer| (sound(call, answer) && call.page[2] == 0).then(|| call.page[1]));
             occurs(entry, 0..=255, |call, answer| (sound(call, answer) && call.page[1] <= most).then(|| call.page[2]));
@@ -384,7 +476,8 @@ mod tests {
         let reason = |(index, cells): (usize, Cells)| (index, number(decode_word(number_of(&cells))));
         for entry in Entry::OF_FIRST_PAGES {
             let wanted = (0..WORDS).flat_map(|index| [(index, 11), (index, 12)]);
-            occurs(entry, wanted, |call, answer| refused_word(call, answer).map(reason));
+            let first = |call: &Call| call.page.first() == Some(&FIRST_ROUND);
+            occurs(entry, wanted, |call, answer| refused_word(call, answer).filter(|_| first(call)).map(reason));
         }
     }
 
@@ -396,12 +489,130 @@ mod tests {
         occurs(Entry::ReadSecond, wanted, |call, answer| refused_word(call, answer).map(reason));
     }
 
+    /// Where a word of a filled page has its hole, and whether it has data as well; or how many data cells are set in a
+    /// word without a hole, of those that there are.
+    fn flaw_of(cells: &Cells) -> &'static str {
+        let data = read_back(cells);
+        let set: Vec<usize> = data.iter().copied().filter(|&cell| cells[cell]).collect();
+        match (well_formed(cells), hole_of(cells), set.len()) {
+            (false, hole, 0) => hole,
+            (false, _, _) => "hole and data",
+            (true, _, 1) if set[0] == data[0] => "first data cell",
+            (true, _, 1) if set[0] == data[data.len() - 1] => "last data cell",
+            (true, _, 1) => "middle data cell",
+            (true, _, 23) => "full",
+            _ => "several data cells",
+        }
+    }
+
+    /// "7 for a word that is not well formed or has a data cell set".
+    #[test]
+    fn every_word_of_a_filled_page_with_each_flaw() {
+        let holes = ["start", "middle", "end", "everywhere", "hole and data"];
+        let data = ["first data cell", "middle data cell", "last data cell", "full", "several data cells"];
+        let flaws = holes.into_iter().chain(data);
+        for entry in Entry::OF_FILLED_PAGES {
+            let wanted = flaws.clone().flat_map(|flaw| (0..WORDS).map(move |index| (index, flaw)));
+            let reason = |(index, cells): (usize, Cells)| (index, flaw_of(&cells));
+            let filled = |call: &Call| call.page.first() == Some(&FILLED);
+            occurs(entry, wanted, |call, answer| refused_word(call, answer).filter(|_| filled(call)).map(reason));
+        }
+    }
+
+    /// The words of a filled page that are not as they must be, in order: whether each is well formed.
+    fn flaws_of(page: &[u8]) -> Vec<(usize, bool)> {
+        let words = words_of(page);
+        let flawed = |index: &usize| !crate::word::unwritten(&words[*index]);
+        (0..WORDS).filter(flawed).map(|index| (index, well_formed(&words[index]))).collect()
+    }
+
+    /// A hole before a set data cell, and after one: 7 names the lower word of every two neighbouring ones.
+    #[test]
+    fn two_flaws_of_different_kinds() {
+        for entry in Entry::OF_FILLED_PAGES {
+            let wanted = (0..WORDS - 1).flat_map(|low| [(low, true, false), (low, false, true)]);
+            occurs(entry, wanted, |call, answer| {
+                let filled = number(answer) == 7 && call.page[0] == FILLED;
+                match filled.then(|| flaws_of(&call.page)).as_deref() {
+                    Some(&[(low, first), (high, second)]) if high == low + 1 => Some((low, first, second)),
+                    _ => None,
+                }
+            });
+        }
+    }
+
+    /// The bit in which the two pages differ, if it is one alone.
+    fn single_flip(page: &[u8], base: &[u8]) -> Option<usize> {
+        let differing: Vec<usize> = (0..PAGE_BYTES).filter(|&place| page[place] != base[place]).take(2).collect();
+        match differing[..] {
+            [place] => Some(page[place] ^ base[place])
+                .filter(|flips| flips.is_power_of_two())
+                .map(|flips| 8 * place + flips.leading_zeros() as usize),
+            _ => None,
+        }
+    }
+
+    /// Each bit of the page flipped by itself: the entries that take such a page look at each cell, the others at the
+    /// state alone.
+    #[test]
+    fn every_cell_of_a_filled_page_flipped() {
+        let accepted = answered().iter().find(|(call, answer)| call.entry == Entry::WriteSecond && answer.is_ok());
+        let base = &accepted.expect("an accepted call").0.page;
+        let of_filled = Entry::OF_FILLED_PAGES.map(|entry| (entry, 7, 24..8 * PAGE_BYTES));
+        let others = [Entry::FillPage, Entry::ReadSecond].map(|entry| (entry, 5, 8..8 * PAGE_BYTES));
+        for (entry, refusal, wanted) in of_filled.into_iter().chain(others) {
+            occurs(entry, wanted, |call, answer| match number(answer) {
+                met if met == refusal => single_flip(&call.page, base),
+                _ => None,
+            });
+        }
+    }
+
+    /// "Page capacity serves both states": the least, the most and a middle capacity in each.
+    #[test]
+    fn every_capacity_in_both_states() {
+        let kinds = ["least", "middle", "most"];
+        let wanted = kinds.into_iter().flat_map(|kind| [(kind, FIRST_ROUND), (kind, FILLED)]);
+        occurs(Entry::PageCapacity, wanted, |call, answer| {
+            answer.is_ok().then(|| (capacity_kind(&call.page), call.page[0]))
+        });
+    }
+
+    /// Some cells are sound in each of these states: the state alone decides.
+    #[test]
+    fn every_state_over_cells_that_are_sound_in_each() {
+        for entry in Entry::OF_PAGES.into_iter().filter(|&entry| entry != Entry::WriteFirst) {
+            for value in [SPARSE_VALUE, ODD_VALUE] {
+                let cells = &first_page(&[value; WORDS])[1..];
+                let wanted = (0..=255).map(|state| (state, if entry.states().contains(&state) { 0 } else { 5 }));
+                occurs(entry, wanted, |call, answer| {
+                    (call.page.get(1..) == Some(cells)).then(|| (call.page[0], number(answer)))
+                });
+            }
+        }
+    }
+
     #[test]
     fn every_record_length_over_the_least_a_middle_and_the_most_capacity() {
         let kinds = ["least", "middle", "most"];
         let wanted = (0..=130).flat_map(|length| kinds.map(|kind| (kind, length)));
         let met = |call: &Call| (capacity_kind(&call.page), call.other.len());
-        occurs(Entry::Rewrite, wanted, |call, answer| record_counts(answer).then(|| met(call)));
+        occurs(Entry::WriteSecond, wanted, |call, answer| record_counts(answer).then(|| met(call)));
+    }
+
+    /// How many data cells a record leaves, or lacks.
+    #[test]
+    fn records_that_leave_0_to_7_data_cells() {
+        occurs(Entry::WriteSecond, 0..8, |call, answer| {
+            answer.ok().map(|_| page_capacity(&call.page).expect("a filled page") - 8 * call.other.len() as u64)
+        });
+        occurs(Entry::WriteSecond, 1..=8, |call, answer| {
+            (number(answer) == 8).then(|| 8 * call.other.len() as u64 - value(answer))
+        });
+        occurs(Entry::ReadSecond, 0..8, |call, answer| {
+            let found = |page: &[u8]| data_cells_of(&words_of(page)).len() as u64;
+            answer.ok().map(|length| found(&call.page) - 8 * length)
+        });
     }
 
     #[test]
@@ -432,8 +643,8 @@ mod tests {
     /// 0, 175 to 177 and 255 to 257 among them.
     #[test]
     fn every_page_length_up_to_520() {
-        for entry in Entry::OF_PAGES {
-            let sound = |call: &Call| call.page.is_empty() || call.page[0] == asked(entry).0;
+        for (entry, state) in asked() {
+            let sound = |call: &Call| call.page.is_empty() || call.page[0] == state;
             occurs(entry, 0..=520, |call, _| sound(call).then_some(call.page.len()));
         }
     }

@@ -1,10 +1,18 @@
-//! Words for the calls: legal, damaged, well formed, and with a hole.
+//! Words for the calls: legal, damaged, well formed, unwritten, and with a hole.
 
 use crate::random::Random;
-use crate::word::{cells_with_sum, legal_word, number_of, weight, Cells, CELLS, LARGEST_SUM, LARGEST_VALUE};
+use crate::word::{
+    cells_with_sum, data_cells, legal_word, number_of, weight, Cells, CELLS, LARGEST_SUM, LARGEST_VALUE,
+};
 
 /// The value of the word with the least capacity: "cells 0, 3, 6 up to 45".
 pub const SPARSE_VALUE: u32 = 3_889_371_024;
+
+/// The value whose word has every odd cell set: it is legal, and filled.
+pub const ODD_VALUE: u32 = 2_971_215_072;
+
+/// The value whose word has cells 0 and 45 set: the set cells of two such words touch, and are legal.
+pub const EDGE_VALUE: u32 = 2_971_215_074;
 
 /// The values of document 01's list.
 pub const LISTED_VALUES: [u32; 7] = [0, 1, 2, 3, 77, 243, SPARSE_VALUE];
@@ -70,11 +78,15 @@ fn separators(random: &mut Random) -> Vec<usize> {
     found
 }
 
+/// The word with these separators, and no data.
+fn without_data(separators: &[usize]) -> Cells {
+    std::array::from_fn(|cell| separators.contains(&cell))
+}
+
 /// The word with these separators and any bits in their data cells.
 fn with_data(random: &mut Random, separators: &[usize]) -> Cells {
-    let mut cells = [false; CELLS];
+    let mut cells = without_data(separators);
     for &separator in separators {
-        cells[separator] = true;
         if separator + 1 < CELLS {
             cells[separator + 1] = random.one_in(2);
         }
@@ -88,8 +100,13 @@ pub fn well_formed(random: &mut Random) -> Cells {
     with_data(random, &separators)
 }
 
-/// A word that is not well formed: one separator of a well-formed word is missing, with its data.
-pub fn with_hole(random: &mut Random, hole: Hole) -> Cells {
+/// A well-formed word with no data cell set.
+pub fn unwritten(random: &mut Random) -> Cells {
+    without_data(&separators(random))
+}
+
+/// The separators of a well-formed word, one of which is missing.
+fn separators_with_hole(random: &mut Random, hole: Hole) -> Vec<usize> {
     let mut separators = separators(random);
     let last = separators.len() - 1;
     separators.remove(match hole {
@@ -97,7 +114,36 @@ pub fn with_hole(random: &mut Random, hole: Hole) -> Cells {
         Hole::Middle => random.between(1, last - 1),
         Hole::End => last,
     });
+    separators
+}
+
+/// A word that is not well formed: one separator of a well-formed word is missing, with its data.
+pub fn with_hole(random: &mut Random, hole: Hole) -> Cells {
+    let separators = separators_with_hole(random, hole);
     with_data(random, &separators)
+}
+
+/// A word that is not well formed, with no data cell set.
+pub fn with_bare_hole(random: &mut Random, hole: Hole) -> Cells {
+    without_data(&separators_with_hole(random, hole))
+}
+
+/// A well-formed word with one data cell set.
+pub fn with_one_data_cell(random: &mut Random) -> Cells {
+    let mut cells = unwritten(random);
+    cells[random.pick(&data_cells(&cells))] = true;
+    cells
+}
+
+/// A word that no filled page has: not well formed, with data or without, with one data cell set, full, or empty.
+pub fn not_unwritten(random: &mut Random) -> Cells {
+    let hole = random.pick(&Hole::ALL);
+    match random.below(6) {
+        0 | 1 => with_bare_hole(random, hole),
+        2 => with_hole(random, hole),
+        3 | 4 => with_one_data_cell(random),
+        _ => random.pick(&[[true; CELLS], [false; CELLS]]),
+    }
 }
 
 /// A word with no two neighbours set, of any sum.
@@ -135,9 +181,15 @@ mod tests {
         for _ in 0..2_000 {
             assert!(!word::legal(&illegal(&mut random)));
             assert!(word::well_formed(&well_formed(&mut random)));
+            assert!(word::unwritten(&unwritten(&mut random)));
+            assert!(!word::unwritten(&not_unwritten(&mut random)));
             for hole in Hole::ALL {
                 assert!(!word::well_formed(&with_hole(&mut random, hole)));
+                let bare = with_bare_hole(&mut random, hole);
+                assert!(!word::well_formed(&bare) && word::read_back(&bare).into_iter().all(|cell| !bare[cell]));
             }
+            let written = with_one_data_cell(&mut random);
+            assert!(word::well_formed(&written) && !word::unwritten(&written));
         }
     }
 }
