@@ -90,47 +90,47 @@ module _ (s : Shape) (P : List ℕ) where
   pub capacity-taken : (c : ℕ) → Bytes P
       → (answer (capacityChecks s P) (roomOf s P) ≡ result c) ↔ ((FirstRoundOf s P × (c ≡ roomFirst s P)) ⊎ (FilledOf s P × (c ≡ roomFilled s P)))
   capacity-taken c b = by-state
-    (λ e. (
-      λ h. inr (check-filled-taken _ c b .0 (sym (as-filled e) ∙ h)),
-      λ h. as-filled e ∙ check-filled-taken _ c b .1 (⊎-elim (λ f. absurd (omega (arith, e, f .0 .in-state))) (λ f. f) h),
-    ))
-    (λ n. (
-      λ h. inl (check-taken s P _ c b .0 (sym (as-first n) ∙ h)),
-      λ h. as-first n ∙ check-taken s P _ c b .1 (⊎-elim (λ f. f) (λ f. absurd (n (f .0 .in-state))) h),
-    ))
+      (λ e. (
+        λ h. inr (check-filled-taken _ c b .0 (sym (as-filled e) ∙ h)),
+        λ h. as-filled e ∙ check-filled-taken _ c b .1 (⊎-elim (λ f. absurd (omega (arith, e, f .0 .in-state))) (λ f. f) h),
+      ))
+      (λ n. (
+        λ h. inl (check-taken s P _ c b .0 (sym (as-first n) ∙ h)),
+        λ h. as-first n ∙ check-taken s P _ c b .1 (⊎-elim (λ f. f) (λ f. absurd (n (f .0 .in-state))) h),
+      ))
 
   pub capacity-1 : (i : ℕ) → Refused 1 i ↔ (¬ SizedOf s P × (i ≡ 0))
   capacity-1 i = by-state
-    (λ e. let r = check-filled-refusals _ .one i in (λ h. r .0 (sym (as-filled e) ∙ h), λ h. as-filled e ∙ r .1 h))
-    (λ n. let r = check-refusals s P _ .one i in (λ h. r .0 (sym (as-first n) ∙ h), λ h. as-first n ∙ r .1 h))
+      (λ e. let r = check-filled-refusals _ .one i in (λ h. r .0 (sym (as-filled e) ∙ h), λ h. as-filled e ∙ r .1 h))
+      (λ n. let r = check-refusals s P _ .one i in (λ h. r .0 (sym (as-first n) ∙ h), λ h. as-first n ∙ r .1 h))
 
   pub capacity-5 : (i : ℕ) → Refused 5 i ↔ (SizedOf s P × ¬ (state P ≡ 1) × ¬ (state P ≡ 3) × (i ≡ 0))
   capacity-5 i = by-state
-    (λ e. (λ h. absurd (check-filled-refusals _ .five i .0 (sym (as-filled e) ∙ h) .1 e), λ h. absurd (h .2 e)))
-    (λ n.
-        let r = check-refusals s P _ .five i in
-        (λ h. let q = r .0 (sym (as-first n) ∙ h) in (q .0, q .1, n, q .2), λ h. as-first n ∙ r .1 (h .0, h .1, h .3)))
+      (λ e. (λ h. absurd (check-filled-refusals _ .five i .0 (sym (as-filled e) ∙ h) .1 e), λ h. absurd (h .2 e)))
+      (λ n.
+      let r = check-refusals s P _ .five i in
+      (λ h. let q = r .0 (sym (as-first n) ∙ h) in (q .0, q .1, n, q .2), λ h. as-first n ∙ r .1 (h .0, h .1, h .3)))
 
   pub capacity-6 : (i : ℕ) → Refused 6 i ↔ (SizedOf s P × ((state P ≡ 1) ⊎ (state P ≡ 3)) × (¬ (byte1 P ≡ 0) ⊎ ¬ (byte2 P ≡ 0)) × (i ≡ 0))
   capacity-6 i = by-state
-    (λ e.
-        let r = check-filled-refusals _ .six i in
-        (λ h. let q = r .0 (sym (as-filled e) ∙ h) in (q .0, inr (q .1), q .2, q .3), λ h. as-filled e ∙ r .1 (h .0, e, h .2, h .3)))
-    (λ n.
-        let r = check-refusals s P _ .six i in (
-          λ h. let q = r .0 (sym (as-first n) ∙ h) in (q .0, inl (q .1), q .2, q .3),
-          λ h. as-first n ∙ r .1 (h .0, ⊎-elim (λ e. e) (λ e. absurd (n e)) (h .1), h .2, h .3),
-        ))
+      (λ e.
+      let r = check-filled-refusals _ .six i in
+      (λ h. let q = r .0 (sym (as-filled e) ∙ h) in (q .0, inr (q .1), q .2, q .3), λ h. as-filled e ∙ r .1 (h .0, e, h .2, h .3)))
+      (λ n.
+      let r = check-refusals s P _ .six i in (
+        λ h. let q = r .0 (sym (as-first n) ∙ h) in (q .0, inl (q .1), q .2, q .3),
+        λ h. as-first n ∙ r .1 (h .0, ⊎-elim (λ e. e) (λ e. absurd (n e)) (h .1), h .2, h .3),
+      ))
 
   pub capacity-7 : (i : ℕ) → Refused 7 i ↔ ((HeaderOf 1 s P × LowestBadOf s legal P i) ⊎ (HeaderOf 3 s P × LowestBadOf s isFilled P i))
   capacity-7 i = by-state
-    (λ e.
-        let r = check-filled-refusals _ .seven i in (
-          λ h. inr (r .0 (sym (as-filled e) ∙ h)),
-          λ h. as-filled e ∙ r .1 (⊎-elim (λ f. absurd (omega (arith, e, f .0 .1))) (λ f. f) h),
-        ))
-    (λ n.
-        let r = check-refusals s P _ .seven i in (
-          λ h. inl (r .0 (sym (as-first n) ∙ h)),
-          λ h. as-first n ∙ r .1 (⊎-elim (λ f. f) (λ f. absurd (n (f .0 .1))) h),
-        ))
+      (λ e.
+      let r = check-filled-refusals _ .seven i in (
+        λ h. inr (r .0 (sym (as-filled e) ∙ h)),
+        λ h. as-filled e ∙ r .1 (⊎-elim (λ f. absurd (omega (arith, e, f .0 .1))) (λ f. f) h),
+      ))
+      (λ n.
+      let r = check-refusals s P _ .seven i in (
+        λ h. inl (r .0 (sym (as-first n) ∙ h)),
+        λ h. as-first n ∙ r .1 (⊎-elim (λ f. f) (λ f. absurd (n (f .0 .1))) h),
+      ))

@@ -1,6 +1,6 @@
 // The second record: its bits put into the data cells of a page's words, and read from them.
-use cells::bits_at;
 use crate::filling::Counted;
+use cells::bits_at;
 use window::load_word;
 use window::put_cells;
 use window::store_word;

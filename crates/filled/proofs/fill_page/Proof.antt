@@ -30,8 +30,7 @@ slice-write-page : tie.Need-slice-write-page
 slice-write-page c = omega (arith, passed c .sized)
 
 fill-words-requires : tie.Need-fill-words-requires
-fill-words-requires c κs =
-    omega (arith, length-set (c .before .before .before .before .before .before .args .page .now) 0 3, passed (c .before) .sized)
+fill-words-requires c κs = rw length-set (omega (arith, passed (c .before) .sized))
 
 enum-told-2 : tie.Need-enum-told-2
 enum-told-2 c = search needs
@@ -47,9 +46,7 @@ enum-known-c c = search needs
 
 same-length : tie.Need-same-length
 same-length c =
-    let words = c .before .before in
-    ap length (words .fill-words .ensures) ∙ length-putWords _ _
-    ∙ length-set (words .before .before .before .before .before .before .before .args .page .now) 0 3
+    ap length (c .before .before .fill-words .ensures) ∙ rw length-putWords (rw length-set refl)
 
 returns : tie.Need-returns
 returns c =

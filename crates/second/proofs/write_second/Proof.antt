@@ -1,7 +1,7 @@
 -- `second::write_second` meets its contract: the check's refusals are its own; where the record fits, the header is set, then the words.
 -- Assumes nothing.
 mod Headers
-use mathlib.Core.Path.{_≡_, sym, ap, _∙_}
+use mathlib.Core.Path.{_≡_, refl, sym, ap, _∙_}
 use native.Mathlib.Omega.{arith}
 use borrow.Author.Needs.{needs}
 use lib.ListN.{length, length-set}
@@ -50,17 +50,13 @@ cast-page c =
     omega (arith, room-small _ (c .before .before .before .before .before .before .before .before .args .second .now) (p .0) _ (p .1))
 
 slice-write-page-2 : tie.Need-slice-write-page-2
-slice-write-page-2 c =
-    let p = c .before .before .before .before .before .before .before .before .args .page .now in
-    omega (arith, length-set p 0 7, passed (c .before) .0 .sized)
+slice-write-page-2 c = rw length-set (omega (arith, passed (c .before) .0 .sized))
 
 put-record-requires : tie.Need-put-record-requires
 put-record-requires c κs =
-    let a = c .before .before .before .before .before .before .before .before .before .args in
-    let p = passed (c .before .before) .0 in
-    let n = length (a .second .now) in (
-      omega (arith, header-length (a .page .now) 7 n, p .sized),
-      ap (lowest isFilled) (header-words (a .page .now) 7 n 44) ∙ all-words page256 isFilled _ (p .words-filled),
+    let p = passed (c .before .before) .0 in (
+      rw header-length (omega (arith, p .sized)),
+      ap (lowest isFilled) (header-words _ _ _ 44) ∙ all-words page256 isFilled _ (p .words-filled),
       omega arith,
     )
 
@@ -78,9 +74,7 @@ enum-known-c-2 c = search needs
 
 same-length-2 : tie.Need-same-length-2
 same-length-2 c =
-    let words = c .before .before in
-    let a = words .before .before .before .before .before .before .before .before .before .before .args in
-    ap length (words .put-record .ensures) ∙ length-putWords _ _ ∙ header-length (a .page .now) 7 (length (a .second .now))
+    ap length (c .before .before .put-record .ensures) ∙ rw length-putWords (rw header-length refl)
 
 returns-2 : tie.Need-returns-2
 returns-2 c =
