@@ -380,8 +380,8 @@ WOM_MUST_USE
 uint64_t wom_page_capacity(const uint8_t *page, size_t page_length);
 
 /*! wom_fill_page() :
- *  Fills a first-round page ahead of time, so that writing a second record
- *  sets as few cells as may be.
+ *  Fills a first-round page ahead of time: writing a second record then sets
+ *  cells of the record and of the header only.
  *    page : the page. Afterwards it is a filled page: state 0x03, bytes 1 and 2
  *           are 0, and all 44 words are filled. No cell of any byte is cleared.
  *           Nothing of the first record can be relied on any more.

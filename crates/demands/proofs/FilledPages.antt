@@ -10,10 +10,10 @@ use native.Mathlib.Omega.{arith}
 use lib.Dec.{T}
 use lib.ListN.{length, drop, getD}
 use Rattle.cells.specs.Cells.{bit, kept}
-use Rattle.cells.specs.Bytes.{bits, Bytes}
+use Rattle.cells.specs.Bytes.{bits}
 use Rattle.cells.proofs.Bytes.{Bytes-drop}
 use Rattle.cells.proofs.Kept.{kept-bits}
-use Rattle.window.specs.Words.{join, pageWords, Words, pageOf}
+use Rattle.window.specs.Words.{pageWords, Words}
 use Rattle.word.specs.Word.{legal}
 use Rattle.word.specs.Fill.{fill, isFilled}
 use Rattle.word.specs.Claims.{Legal}

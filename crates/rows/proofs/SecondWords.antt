@@ -8,7 +8,6 @@ use native.Mathlib.Omega.{arith}
 use lib.ListN.{length, take, drop, length-append}
 use lib.Seq.{drop-drop, drop-at, take-at, take-all}
 use Rattle.cells.specs.Cells.{fit, someSet}
-use Rattle.cells.specs.Bytes.{bits}
 use Rattle.cells.proofs.Fits.{fit-spare, length-fit, fit-add, fit-take}
 use Rattle.window.specs.Words.{Words}
 use Rattle.word.specs.Fill.{fill, read, capacity, put}

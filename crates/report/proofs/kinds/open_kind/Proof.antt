@@ -1,6 +1,6 @@
 -- `kinds::open_kind` meets its contract: by the state.
 -- Assumes nothing.
-use mathlib.Core.Path.{sym, refl}
+use mathlib.Core.Path.{refl}
 use borrow.Author.Tests.{eq-eqb, ne-eqb}
 use Rattle.report.proofs.kinds.open_kind.Statement.{statement}
 use Rattle.report.proofs.kinds.open_kind.Tie as tie

@@ -1,11 +1,11 @@
 -- A buffer of zeros that bits were put into, from its first on: its bytes are those of the bits, with 0 after them. Assumes nothing.
-use mathlib.Core.Bool.{Bool, false, not}
-use mathlib.Core.List.{List, [], _∷_, _++_}
+use mathlib.Core.Bool.{Bool, not}
+use mathlib.Core.List.{List, _++_}
 use mathlib.Core.Path.{_≡_, refl, sym, ap, _∙_}
 use Prim.Native.Nat.{ℕ, zero, _+_, _*_, _≤_}
 use native.Mathlib.Omega.{arith}
 use lib.ListN.{length, take, drop, replicate, length-replicate}
-use Rattle.cells.specs.Cells.{cells, someSet}
+use Rattle.cells.specs.Cells.{someSet}
 use Rattle.cells.specs.Bytes.{bits, bytes, zeros}
 use Rattle.cells.proofs.Fits.{drop-clear, spare-clear, take-bytes, bytes-front, zeros-bits, zero-bits}
 use Rattle.cells.proofs.Bytes.{drop-bits, Bytes-bytes, Bytes-drop}
