@@ -33,7 +33,6 @@ module _ (page : List ℕ) (i w : ℕ) (h : start i + 46 ≤ 8 * length page) (e
 
 -- a number that is word i after the fill, where word i is legal
 pub record FilledWord (page : List ℕ) (i f : ℕ) : Type 0 where
-  pub is-fill : cells 46 f ≡ fill (wordAt page i)
   pub small : f < 2 ^ 46
   pub apart : sparse (cells 46 f) ≡ true
   pub count : length (read (cells 46 f)) ≡ capacity (wordAt page i)
@@ -46,7 +45,6 @@ filled-word page i w f h l e ef =
     let v = wordAt page i in
     let g : cells 46 f ≡ fill v = ap (cells 46) ef ∙ cells-fill w ∙ ap fill (loaded-cells page i w h e) in
     record {
-      is-fill = g;
       small = omega (arith, fill-lt w);
       apart = ap sparse g ∙ is-true (sparse (fill v)) (fill-apart v (legal-parts v l .0));
       count = ap (λ (x : List Bool). length (read x)) g;
