@@ -29,6 +29,12 @@
  * Capacity. The capacity of a word is the number of its data cells after the
  * fill.
  *
+ * Pulses. One pulse sets one cell. The pulses of a fill are the cells that it
+ * newly sets, which is the number of set cells after it minus the number of set
+ * cells before it: 0 to 23 for a word. Those of a page's fill are the sum over
+ * its 44 words, 0 to 1012; the cell that the state newly sets is not among
+ * them.
+ *
  * Page. A page is 256 bytes:
  *
  *     byte  0         the state: 0x00 blank, 0x01 first round, 0x03 filled,
@@ -93,8 +99,8 @@
 #include <stdint.h>
 
 /* 10000 times the major number, 100 times the minor one, and the patch. */
-#define WOM_VERSION        20000
-#define WOM_VERSION_STRING "2.0.0"
+#define WOM_VERSION        30000
+#define WOM_VERSION_STRING "3.0.0"
 
 #ifdef __cplusplus
 extern "C" {
@@ -126,6 +132,22 @@ static inline uint64_t wom_result(uint64_t answer)
 static inline uint64_t wom_index(uint64_t answer)
 {
     return answer & ((UINT64_C(1) << 56) - 1);
+}
+
+/*! wom_filled_word() :
+ *  Takes an answer of wom_fill_word(); meant for one whose wom_refusal() is 0.
+ * @return : the filled word, bits 0 to 47 of the answer. */
+static inline uint64_t wom_filled_word(uint64_t answer)
+{
+    return answer & ((UINT64_C(1) << 48) - 1);
+}
+
+/*! wom_filled_pulses() :
+ *  Takes an answer of wom_fill_word(); meant for one whose wom_refusal() is 0.
+ * @return : the pulses of the fill, bits 48 to 55 of the answer. */
+static inline unsigned wom_filled_pulses(uint64_t answer)
+{
+    return (unsigned)(answer >> 48 & 0xff);
 }
 
 /* ------------------------------------------------------------------------
@@ -265,10 +287,12 @@ WOM_MUST_USE
 uint64_t wom_decode_word(uint64_t word);
 
 /*! wom_fill_word() :
- *  Fills a word of the first round.
+ *  Fills a word of the first round, and counts the cells that this newly sets.
  *    word : the word, not filled; any 64-bit value may be passed.
- * @return : the filled word, in bits 0 to 45: every set cell of 'word', and the
- *           cells set by the fill;
+ * @return : the filled word plus 2^48 times the pulses. wom_filled_word() gives
+ *           the filled word: every set cell of 'word', and the cells set by the
+ *           fill. wom_filled_pulses() gives the pulses, the number of the
+ *           latter, 0 to 23;
  *           or a refusal with index 0, the first of these that applies:
  *             10 (WOM_REFUSED_HIGH_BIT)   if a bit above cell 0 is set,
  *             11 (WOM_REFUSED_NEIGHBOURS) if two neighbouring cells are set,
@@ -385,7 +409,9 @@ uint64_t wom_page_capacity(const uint8_t *page, size_t page_length);
  *    page : the page. Afterwards it is a filled page: state 0x03, bytes 1 and 2
  *           are 0, and all 44 words are filled. No cell of any byte is cleared.
  *           Nothing of the first record can be relied on any more.
- * @return : 0;
+ * @return : the pulses of the fill: the number of cells that it newly sets in
+ *           bytes 3 to 255, 0 to 1012. The one cell that it newly sets in byte
+ *           0, the state, is not counted;
  *           or a refusal, the first of these that applies:
  *             1 (WOM_REFUSED_PAGE_LENGTH) if the page is not 256 bytes,
  *             5 (WOM_REFUSED_STATE)       if the state is not 0x01,

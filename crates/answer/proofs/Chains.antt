@@ -10,13 +10,13 @@ use borrow.Author.Tests.{eq-eqb, ne-eqb, eqb-true}
 use lib.Dec.{T, eqb}
 use lib.ListN.{length, drop}
 use Rattle.cells.specs.Bytes.{atStart}
-use Rattle.answer.specs.Answer.{Answer, result, refusal, Check, refuse, answer, after, None, numbers, among, RefusesBy}
+use Rattle.answer.specs.Answer.{AnswerOf, Answer, result, refusal, Check, refuse, answer, after, None, numbers, among, RefusesBy}
 use Rattle.answer.specs.Layout.{Faithful, Small}
 
 -- ---- the answer of a list
 
 -- accepted exactly where no condition holds
-pub accepted : (cs : List Check) (x v : ℕ) → (answer cs x ≡ result v) ↔ (None cs × (v ≡ x))
+pub accepted : {A : Type 0} (cs : List Check) (x v : A) → (answer cs x ≡ result v) ↔ (None cs × (v ≡ x))
 unfolding answer
 accepted [] x v = (λ e. (tt, cc), λ h. ap result (sym (h .1)))
 accepted (refuse true m j ∷ cs) x v = (λ e. let z : _≡_ {A = ℕ} 0 1 = cc in absurd (omega arith), λ h. absurd (subst T (h .0 .0) tt))
@@ -26,17 +26,17 @@ accepted (refuse false m j ∷ cs) x v = (
 )
 
 -- a refusal does not depend on what stands behind it, nor on the result
-pub still-refused : (cs ds : List Check) (x y n i : ℕ) → answer cs x ≡ refusal n i → answer (cs ++ ds) y ≡ refusal n i
+pub still-refused : {A B : Type 0} (cs ds : List Check) (x : A) (y : B) (n i : ℕ) → answer cs x ≡ refusal n i → answer (cs ++ ds) y ≡ refusal n i
 unfolding answer
 still-refused [] ds x y n i e = let z : _≡_ {A = ℕ} 0 1 = cc in absurd (omega arith)
-still-refused (refuse true m j ∷ cs) ds x y n i e = e
+still-refused (refuse true m j ∷ cs) ds x y n i e = let p : m ≡ n = cc in let q : j ≡ i = cc in rw (p, q) refl
 still-refused (refuse false m j ∷ cs) ds x y n i e = still-refused cs ds x y n i e
 
-pub same-refusal : (cs : List Check) (x y n i : ℕ) → answer cs x ≡ refusal n i → answer cs y ≡ refusal n i
+pub same-refusal : {A B : Type 0} (cs : List Check) (x : A) (y : B) (n i : ℕ) → answer cs x ≡ refusal n i → answer cs y ≡ refusal n i
 same-refusal cs x y n i e = subst (λ (ds : List Check). answer ds y ≡ refusal n i) (append-nil cs) (still-refused cs [] x y n i e)
 
 -- a last check whose condition does not hold
-pub last-passed : (cs : List Check) (b : Bool) (n i x : ℕ) → b ≡ false → answer (cs ++ (refuse b n i ∷ [])) x ≡ answer cs x
+pub last-passed : {A : Type 0} (cs : List Check) (b : Bool) (n i : ℕ) (x : A) → b ≡ false → answer (cs ++ (refuse b n i ∷ [])) x ≡ answer cs x
 unfolding answer
 last-passed [] b n i x e = rw e refl
 last-passed (refuse true m j ∷ cs) b n i x e = refl
@@ -45,7 +45,7 @@ last-passed (refuse false m j ∷ cs) b n i x e = last-passed cs b n i x e
 -- ---- numbers
 
 -- the number of a refusal is one of the checks'
-listed : (cs : List Check) (x n i : ℕ) → answer cs x ≡ refusal n i → T (among n (numbers cs))
+listed : {A : Type 0} (cs : List Check) (x : A) (n i : ℕ) → answer cs x ≡ refusal n i → T (among n (numbers cs))
 unfolding among answer numbers
 listed [] x n i e = let z : _≡_ {A = ℕ} 0 1 = cc in absurd (omega arith)
 listed (refuse true m j ∷ cs) x n i e = let z : n ≡ m = cc in rw (eq-eqb n m z) tt
@@ -55,7 +55,7 @@ listed (refuse false m j ∷ cs) x n i e = right (eqb n m) (among n (numbers cs)
     right true b t = tt
     right false b t = t
 
-pub no-other : (cs : List Check) (x : ℕ) → RefusesBy (numbers cs) (answer cs x)
+pub no-other : {A : Type 0} (cs : List Check) (x : A) → RefusesBy (numbers cs) (answer cs x)
 no-other cs x = record { listed = listed cs x }
 
 -- a number that is not the first of a list
@@ -81,7 +81,7 @@ within n (m ∷ ns) ms w h = go (eqb n m) refl h (within n ns ms (w .1))
 -- ---- the first that holds
 
 -- just when: no earlier condition holds, and this one does
-pub refused : (cs ds : List Check) (b : Bool) (x n i k : ℕ) → among n (numbers cs) ≡ false → among n (numbers ds) ≡ false
+pub refused : {A : Type 0} (cs ds : List Check) (b : Bool) (x : A) (n i k : ℕ) → among n (numbers cs) ≡ false → among n (numbers ds) ≡ false
     → (answer (cs ++ (refuse b n i ∷ ds)) x ≡ refusal n k) ↔ (None cs × (b ≡ true) × (k ≡ i))
 unfolding among answer numbers
 refused [] ds true x n i k f g = (λ e. (tt, refl, cc), λ h. ap (refusal n) (sym (h .2)))

@@ -3,7 +3,7 @@
 use Rattle.answer.specs.Claims.{FirstRefusalGiven}
 use Rattle.answer.proofs.Chains.{accepted, refused, no-other, still-refused, refused-leaves, taken-apart}
 
-pub first-refusal-given : FirstRefusalGiven
+pub first-refusal-given : {A : Type 0} → FirstRefusalGiven A
 first-refusal-given = record {
   accepted = accepted;
   refused = refused;

@@ -62,7 +62,7 @@ is-not {b = false} t h = refl
 
 -- ---- a check before others
 
-module _ {b : Bool} {A B : Type 0} (t : Tells b A B) (n i : ℕ) (cs : List Check) (x : ℕ) where
+module _ {b : Bool} {A B C : Type 0} (t : Tells b A B) (n i : ℕ) (cs : List Check) (x : C) where
   -- its condition holds
   pub first-refused : A → answer (refuse b n i ∷ cs) x ≡ refusal n i
   unfolding answer
@@ -92,7 +92,7 @@ module _ {b : Bool} {A B : Type 0} (t : Tells b A B) (n i : ℕ) (cs : List Chec
       by false e h = (t .if-not e, r .0 h)
 
   -- a result
-  pub taken : {X : Type 0} (v : ℕ) → (answer cs x ≡ result v) ↔ X → (answer (refuse b n i ∷ cs) x ≡ result v) ↔ (B × X)
+  pub taken : {X : Type 0} (v : C) → (answer cs x ≡ result v) ↔ X → (answer (refuse b n i ∷ cs) x ≡ result v) ↔ (B × X)
   unfolding answer
   taken {X} v r = (λ e. by b refl e, λ h. passed (h .0) ∙ r .1 (h .1))
     where
@@ -101,7 +101,7 @@ module _ {b : Bool} {A B : Type 0} (t : Tells b A B) (n i : ℕ) (cs : List Chec
       by false e h = (t .if-not e, r .0 h)
 
 -- no check left
-pub nothing-left : (x v : ℕ) → (answer [] x ≡ result v) ↔ (v ≡ x)
+pub nothing-left : {C : Type 0} (x v : C) → (answer [] x ≡ result v) ↔ (v ≡ x)
 unfolding answer
 nothing-left x v = (λ e. cc, λ h. ap result (sym h))
 

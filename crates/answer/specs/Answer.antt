@@ -7,9 +7,13 @@ use Prim.Native.Nat.{ℕ}
 use lib.Dec.{T, eqb}
 
 -- "The answer is either the result named here or one refusal, never both." A refusal has its number and its index, 0 where it has none
-pub data Answer : Type 0 where
-  result : ℕ → Answer
-  refusal : ℕ → ℕ → Answer
+pub data AnswerOf (A : Type 0) : Type 0 where
+  result : A → AnswerOf A
+  refusal : ℕ → ℕ → AnswerOf A
+
+-- the result is one number, but for an operation that returns two
+abbrev pub Answer : Type 0
+Answer = AnswerOf ℕ
 
 -- one check of an operation: the condition on which it refuses, the refusal's number and its index
 pub data Check : Type 0 where
@@ -17,7 +21,7 @@ pub data Check : Type 0 where
 
 -- "The first refusal in the stated order is returned": of the checks in their order the first whose condition holds; where none does, the
 -- result
-unfoldable pub answer : List Check → ℕ → Answer
+unfoldable pub answer : {A : Type 0} → List Check → A → AnswerOf A
 answer [] x = result x
 answer (refuse b n i ∷ cs) x = cond b (refusal n i) (answer cs x)
 
@@ -44,5 +48,5 @@ among n [] = false
 among n (m ∷ ms) = eqb n m || among n ms
 
 -- an answer refuses by no other number than these
-pub record RefusesBy (ns : List ℕ) (a : Answer) : Type 0 where
+pub record RefusesBy {A : Type 0} (ns : List ℕ) (a : AnswerOf A) : Type 0 where
   pub listed : (n i : ℕ) → a ≡ refusal n i → T (among n ns)

@@ -8,16 +8,16 @@ use Prim.Native.Nat.{ℕ, _^_, _<_}
 use Rattle.answer.specs.Answer.{Answer, result, refusal, Check, refuse, answer, after, None, numbers, among, RefusesBy}
 use Rattle.answer.specs.Layout.{Faithful, Small}
 
-pub record FirstRefusalGiven : Type 0 where
+pub record FirstRefusalGiven (A : Type 0) : Type 0 where
   -- accepted exactly when no condition holds
-  pub accepted : (cs : List Check) (x v : ℕ) → (answer cs x ≡ result v) ↔ (None cs × (v ≡ x))
+  pub accepted : (cs : List Check) (x v : A) → (answer cs x ≡ result v) ↔ (None cs × (v ≡ x))
   -- "it is returned just when its condition holds and no earlier one does"
-  pub refused : (cs ds : List Check) (b : Bool) (x n i k : ℕ) → among n (numbers cs) ≡ false → among n (numbers ds) ≡ false
+  pub refused : (cs ds : List Check) (b : Bool) (x : A) (n i k : ℕ) → among n (numbers cs) ≡ false → among n (numbers ds) ≡ false
       → (answer (cs ++ (refuse b n i ∷ ds)) x ≡ refusal n k) ↔ (None cs × (b ≡ true) × (k ≡ i))
   -- there is no other number
-  pub no-other : (cs : List Check) (x : ℕ) → RefusesBy (numbers cs) (answer cs x)
+  pub no-other : (cs : List Check) (x : A) → RefusesBy (numbers cs) (answer cs x)
   -- a later answer keeps an earlier refusal
-  pub still-refused : (cs ds : List Check) (x y n i : ℕ) → answer cs x ≡ refusal n i → answer (cs ++ ds) y ≡ refusal n i
+  pub still-refused : (cs ds : List Check) (x y : A) (n i : ℕ) → answer cs x ≡ refusal n i → answer (cs ++ ds) y ≡ refusal n i
   -- a refused call leaves a buffer as it was
   pub refused-leaves : (a : Answer) (old new : List ℕ) (n i : ℕ) → a ≡ refusal n i → after a old new ≡ old
   -- a packed answer can be taken apart

@@ -1,5 +1,5 @@
--- What filling a page and measuring one answer, and what they leave in the page (document 02, Change 2), and the papers' number and values
--- for each case of their enums. The checks are over a shape of page.
+-- What filling a page and measuring one answer, and what they leave in the page (document 02, Changes 2 and 3), and the papers' number and
+-- values for each case of their enums. The checks are over a shape of page.
 -- Assumes nothing.
 use mathlib.Core.Bool.{cond, not, _&&_, _||_}
 use mathlib.Core.List.{List, [], _∷_}
@@ -10,7 +10,7 @@ use Rattle.answer.specs.Answer.{Answer, result, refusal, Check, refuse, answer,
 use Rattle.window.specs.Words.{pageWords}
 use Rattle.word.specs.Word.{legal}
 use Rattle.word.specs.Fill.{isFilled}
-use Rattle.rows.specs.Page.{Shape, page256, state, byte1, byte2, capacityAll, filledPage, secondBitsOf}
+use Rattle.rows.specs.Page.{Shape, page256, state, byte1, byte2, pulsesAll, capacityAll, filledPage, secondBitsOf}
 use Rattle.page.specs.Answer.{refuseWord, stateChecks, firstChecks}
 use Rattle.filled.specs.declared.PageFilled.{PageFilled}
 use Rattle.filled.specs.declared.PageFilled.the-variants as pageFilled
@@ -21,9 +21,13 @@ use Rattle.filled.specs.declared.check.FilledCheck.the-variants as fille
 
 -- ---- fill page
 
--- "Filling refuses 1, 5, 6, 7 as read first does"
+-- the pulses of filling a page. The cell that the state newly sets is in none of its words: "the one in the state byte is not in it"
+abbrev pub pagePulses : Shape → List ℕ → ℕ
+pagePulses s page = pulsesAll (pageWords page (s .words))
+
+-- "Filling refuses 1, 5, 6, 7 as read first does"; it "returns the sum over its words"
 abbrev pub fillPageAnswer : List ℕ → Answer
-fillPageAnswer page = answer (firstChecks page256 page) 0
+fillPageAnswer page = answer (firstChecks page256 page) (pagePulses page256 page)
 
 -- "Filling turns a first-round page into state 03 (hexadecimal) with bytes 1 and 2 at 0."
 abbrev pub fillPageLeaves : List ℕ → List ℕ
@@ -62,7 +66,7 @@ pageCapacityAnswer page = answer (capacityChecks page256 page) (roomOf page256 p
 -- ---- the papers' number and values for each case of an enum
 
 abbrev pub pageFilledCode : PageFilled → Answer
-pageFilledCode pageFilled.Done = result 0
+pageFilledCode (pageFilled.Pulses n) = result n
 pageFilledCode pageFilled.PageLength = refusal 1 0
 pageFilledCode pageFilled.State = refusal 5 0
 pageFilledCode pageFilled.Header = refusal 6 0

@@ -17,9 +17,9 @@ ghost use Rattle.rows.specs.Page.{page256};
 ghost use Rattle.page.specs.Answer.{firstChecks};
 ghost use Rattle.filled.specs.Answer.{filledChecks, roomFirst, roomFilled, fillPageAnswer, fillPageLeaves, pageCapacityAnswer, pageFilledCode, measuredCode};
 
-// What filling a page gives.
+// What filling a page gives: the pulses of it.
 pub enum PageFilled {
-    Done,
+    Pulses(u32),
     PageLength,
     State,
     Header,
@@ -35,7 +35,7 @@ pub enum Measured {
     Word(u32),
 }
 
-// Fill page: turns a first-round page into a filled page.
+// Fill page: turns a first-round page into a filled page, and counts the pulses that its words take.
 pub fn fill_page(page: &mut [u8]) -> PageFilled
     ensures answer { λ r. ⌜ pageFilledCode r ≡ fillPageAnswer (now (page .entry)) ⌝ }
     ensures bytes { λ _. ⌜ now (page .exit) ≡ fillPageLeaves (now (page .entry)) ⌝ }
@@ -44,8 +44,7 @@ pub fn fill_page(page: &mut [u8]) -> PageFilled
     match c {
         FirstCheck::Passed => {
             page[0] = 3;
-            filling::fill_words(page, 44);
-            PageFilled::Done
+            PageFilled::Pulses(filling::fill_words(page, 44))
         }
         FirstCheck::PageLength => PageFilled::PageLength,
         FirstCheck::State => PageFilled::State,

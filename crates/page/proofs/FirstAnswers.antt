@@ -33,15 +33,15 @@ module _ (s : Shape) (P D : List ℕ) where
         λ h. let l = ap length (h .0) ∙ length-blank (s .size) in (l, (h .1, (h .0 ∙ ap blankOf (sym l), h .2))),
       )
 
-  pub write-first-1 : (i : ℕ) → (answer (writeFirstChecks s P D) 0 ≡ refusal 1 i) ↔ (¬ SizedOf s P × (i ≡ 0))
+  pub write-first-1 : (i : ℕ) → (answer {A = ℕ} (writeFirstChecks s P D) 0 ≡ refusal 1 i) ↔ (¬ SizedOf s P × (i ≡ 0))
   unfolding writeFirstChecks numbers among
   write-first-1 i = just (not-sized s P) 1 0 _ 0 refl i
 
-  pub write-first-2 : (i : ℕ) → (answer (writeFirstChecks s P D) 0 ≡ refusal 2 i) ↔ (SizedOf s P × ¬ (length D ≡ s .firstBytes) × (i ≡ 0))
+  pub write-first-2 : (i : ℕ) → (answer {A = ℕ} (writeFirstChecks s P D) 0 ≡ refusal 2 i) ↔ (SizedOf s P × ¬ (length D ≡ s .firstBytes) × (i ≡ 0))
   unfolding writeFirstChecks numbers among
   write-first-2 i = Iff·trans (later (not-sized s P) 1 0 _ 0 2 i (λ e. omega arith) (just other-length 2 0 _ 0 refl i)) flat3
 
-  pub write-first-4 : (i : ℕ) → (answer (writeFirstChecks s P D) 0 ≡ refusal 4 i)
+  pub write-first-4 : (i : ℕ) → (answer {A = ℕ} (writeFirstChecks s P D) 0 ≡ refusal 4 i)
       ↔ (SizedOf s P × (length D ≡ s .firstBytes) × ¬ (P ≡ blankOf (s .size)) × (i ≡ 0))
   unfolding writeFirstChecks numbers among
   write-first-4 i =
@@ -104,6 +104,6 @@ module _ (s : Shape) (P : List ℕ) where
     unfolding readFirstChecks firstChecks numbers among
     read-first-1567 = state-refusals 1 legal s P _ 0 (refl, refl, refl, refl)
 
-    pub read-first-3 : (i : ℕ) → Bytes P → (answer (readFirstChecks s P out) 0 ≡ refusal 3 i) ↔ (FirstRoundOf s P × (length out < s .firstBytes) × (i ≡ 0))
+    pub read-first-3 : (i : ℕ) → Bytes P → (answer {A = ℕ} (readFirstChecks s P out) 0 ≡ refusal 3 i) ↔ (FirstRoundOf s P × (length out < s .firstBytes) × (i ≡ 0))
     unfolding readFirstChecks numbers among
     read-first-3 i b = Iff·trans (first-later _ 0 3 i b (omega arith) (just (less (length out) (s .firstBytes)) 3 0 _ 0 refl i)) flat3

@@ -11,7 +11,7 @@ use Rattle.cells.specs.Cells.{number, someSet}
 use Rattle.cells.specs.Bytes.{bits, bytes, highFirst, Bytes, zeros}
 use Rattle.window.specs.Words.{wordAt, pageWords, putWords}
 use Rattle.word.specs.Word.{sum, legal, zeckendorf}
-use Rattle.word.specs.Fill.{fill, read, capacity, put, wellFormed, isFilled}
+use Rattle.word.specs.Fill.{fill, fillPulses, read, capacity, put, wellFormed, isFilled}
 
 -- ---- the shape
 
@@ -72,6 +72,11 @@ firstPage s page bs = putWords (1 ∷ drop 1 page) (firstWords (s .words) bs)
 unfoldable pub fillAll : List (List Bool) → List (List Bool)
 fillAll [] = []
 fillAll (w ∷ ws) = fill w ∷ fillAll ws
+
+-- the pulses of filling a page are "the sum over its words" (document 02, Change 3)
+unfoldable pub pulsesAll : List (List Bool) → ℕ
+pulsesAll [] = 0
+pulsesAll (w ∷ ws) = fillPulses w + pulsesAll ws
 
 -- a page's capacity is the sum over its words
 unfoldable pub capacityAll : List (List Bool) → ℕ

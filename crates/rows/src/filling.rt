@@ -4,12 +4,13 @@ use window::store_word;
 use word::second::data_cells;
 use word::separators::fill_word;
 use word::separators::is_filled;
+use word::separators::pulses_of;
 ghost use mathlib.Core.Path.{_≡_};
 ghost use Prim.Native.Nat.{_*_, _^_, _≤_, _<_};
 ghost use lib.ListN.{length};
 ghost use Rattle.window.specs.Words.{start, pageWords, putWords};
 ghost use Rattle.word.specs.Fill.{isFilled};
-ghost use Rattle.rows.specs.Page.{lowest, fillAll, readAll};
+ghost use Rattle.rows.specs.Page.{lowest, fillAll, pulsesAll, readAll};
 
 // The words of a page up to the first that does not pass a test: their number, and that of their data cells.
 pub struct Counted {
@@ -17,14 +18,20 @@ pub struct Counted {
     pub cells: usize,
 }
 
-// Fills the n words of a page.
-pub fn fill_words(page: &mut [u8], n: usize)
-    requires { ⌜ start n ≤ 8 * length (now page) ⌝ }
-    ensures { λ _. ⌜ now (page .exit) ≡ putWords (now (page .entry)) (fillAll (pageWords (now (page .entry)) n)) ⌝ }
+// Fills the n words of a page. Returns the pulses of it, the sum over the words.
+pub fn fill_words(page: &mut [u8], n: usize) -> u32
+    requires { ⌜ (start n ≤ 8 * length (now page)) × (n < 2 ^ 16) ⌝ }
+    ensures pulses { λ r. ⌜ r ≡ pulsesAll (pageWords (now (page .entry)) n) ⌝ }
+    ensures bytes { λ _. ⌜ now (page .exit) ≡ putWords (now (page .entry)) (fillAll (pageWords (now (page .entry)) n)) ⌝ }
 {
+    let mut total: u32 = 0;
     for i in 0..n {
-        store_word(page, i, fill_word(load_word(page, i)));
+        let word = load_word(page, i);
+        let filled = fill_word(word);
+        store_word(page, i, filled);
+        total += pulses_of(word, filled) as u32;
     }
+    total
 }
 
 // The words of a page, of n, up to the first that is not filled. A filled word is its own separators, so its data cells are counted as it is.

@@ -197,7 +197,7 @@ fn pack_page_filled(f: PageFilled) -> u64
     ensures { λ r. ⌜ r ≡ packed (pageFilledCode f) ⌝ }
 {
     match f {
-        PageFilled::Done => 0,
+        PageFilled::Pulses(n) => n as u64,
         PageFilled::PageLength => PAGE_LENGTH,
         PageFilled::State => STATE,
         PageFilled::Header => HEADER,
@@ -205,7 +205,7 @@ fn pack_page_filled(f: PageFilled) -> u64
     }
 }
 
-// Fill page: 0, or 1, 5, 6, or 7 with the word's index.
+// Fill page: the pulses that its words take, or 1, 5, 6, or 7 with the word's index.
 #[no_mangle]
 pub extern "C" fn wom_fill_page(page: &mut [u8]) -> u64
     ensures answer { λ r. ⌜ r ≡ packed (fillPageAnswer (now (page .entry))) ⌝ }

@@ -1,4 +1,5 @@
--- `rows::filling::fill_words` meets its contract: before word i the words before it are filled. Assumes nothing.
+-- `rows::filling::fill_words` meets its contract: before word i the words before it are filled, and the total is their pulses.
+-- Assumes nothing.
 mod Turns
 use mathlib.Core.Path.{_≡_, refl, ap, _∙_}
 use Prim.Native.Nat.{ℕ, _+_, _≤_, _-_}
@@ -7,20 +8,21 @@ use lib.ListN.{length}
 use Rattle.window.specs.Words.{pageWords, putWords}
 use Rattle.window.proofs.Words.{length-putWords}
 use Rattle.word.proofs.FreeCells.{fill-lt}
-use Rattle.rows.specs.Page.{fillAll}
+use Rattle.word.proofs.Pulses.{filled-kept}
+use Rattle.rows.specs.Page.{fillAll, pulsesAll}
 use Rattle.rows.proofs.Loaded.{loaded-lt}
-use Rattle.rows.proofs.filling.fill_words.Proof.Turns.{Filling, filling-start, filling-turn}
+use Rattle.rows.proofs.filling.fill_words.Proof.Turns.{Filling, Pulsing, filling-start, filling-turn, pulsing-start, pulsing-turn}
 use Rattle.rows.proofs.filling.fill_words.Statement.{statement}
 use Rattle.rows.proofs.filling.fill_words.Tie as tie
 
 abbrev Inv-loop : tie.InvT-loop
-Inv-loop page₀ n i₀ page i = (i ≤ n) × (length page ≡ length page₀) × Filling page₀ page i
+Inv-loop page₀ n total₀ i₀ page total i = (i ≤ n) × (length page ≡ length page₀) × Filling page₀ page i × Pulsing page₀ total i
 
 abbrev μ-loop : tie.MeasureT-loop
-μ-loop page₀ n i₀ page i = n - i
+μ-loop page₀ n total₀ i₀ page total i = n - i
 
 loop-holds : tie.Need-loop-holds Inv-loop μ-loop
-loop-holds c = (omega arith, refl, filling-start _ (λ j. omega (arith, c .slice-known .given j)))
+loop-holds c = (omega arith, refl, filling-start _ (λ j. omega (arith, c .slice-known .given j)), pulsing-start _)
 
 load-word-requires : tie.Need-load-word-requires Inv-loop μ-loop
 load-word-requires c κs = omega arith
@@ -29,7 +31,30 @@ fill-word-requires : tie.Need-fill-word-requires Inv-loop μ-loop
 fill-word-requires c κs = loaded-lt _ _ _ (omega arith) (c .load-word .ensures)
 
 store-word-requires : tie.Need-store-word-requires Inv-loop μ-loop
-store-word-requires c κs = (omega arith, omega (arith, c .fill-word .ensures, fill-lt (c .before .load-word .result)))
+store-word-requires c κs = (omega arith, omega (arith, c .before .fill-word .ensures, fill-lt (c .before .before .load-word .result)))
+
+pulses-of-requires : tie.Need-pulses-of-requires Inv-loop μ-loop
+pulses-of-requires c κs =
+    let fill = c .before .before .before .before in
+    let w = fill .before .load-word .result in (
+      loaded-lt _ _ _ (omega arith) (fill .before .load-word .ensures),
+      omega (arith, fill .fill-word .ensures, fill-lt w),
+      filled-kept w _ (fill .fill-word .ensures),
+    )
+
+counted : (c : tie.After-pulses-of Inv-loop μ-loop) →
+    let l = c .before .before .before .before .before .before .before .before .before in
+    Pulsing (l .before .before .args .page .now) (l .loop .total + c .pulses-of .result) (l .loop .i + 1)
+counted c =
+    let fill = c .before .before .before .before .before in
+    let l = fill .before .before .before .before in
+    pulsing-turn _ _ _ (l .loop .inv .2) (omega arith) _ _ _ _ (fill .before .load-word .ensures) (fill .fill-word .ensures) (c .pulses-of .ensures) (l .loop .inv .3)
+
+cast-total : tie.Need-cast-total Inv-loop μ-loop
+cast-total c = omega (arith, counted c .few)
+
+add-total : tie.Need-add-total Inv-loop μ-loop
+add-total c = omega (arith, counted c .few)
 
 add-i : tie.Need-add-i Inv-loop μ-loop
 add-i c = omega arith
@@ -39,13 +64,13 @@ loop-less c = omega arith
 
 loop-again : tie.Need-loop-again Inv-loop μ-loop
 loop-again c =
-    let store = c .before .before in
-    let fill = store .before in
+    let store = c .before .before .before in
+    let fill = store .before .before in
     let load = fill .before in
-    let l = load .before .before .before .before in
+    let l = load .before .before .before in
     let t : Filling (l .before .before .args .page .now) (store .store-word .last .0) (l .loop .i + 1) =
     filling-turn _ _ _ (l .loop .inv .2) (omega arith) _ _ _ (load .load-word .ensures) (fill .fill-word .ensures) (store .store-word .ensures) in
-    (omega arith, ap length t ∙ length-putWords _ _, t)
+    (omega arith, ap length t ∙ length-putWords _ _, t, counted c)
 
 same-length : tie.Need-same-length Inv-loop μ-loop
 same-length c = ap length (c .before .loop .inv .2) ∙ length-putWords _ _
@@ -54,7 +79,10 @@ returns : tie.Need-returns Inv-loop μ-loop
 returns c =
     let a = c .before .before .before .args in
     let e : c .before .loop .i ≡ a .n = omega arith in
-    c .before .loop .inv .2 ∙ ap (λ (n : ℕ). putWords (a .page .now) (fillAll (pageWords (a .page .now) n))) e
+    (
+      c .before .loop .inv .3 .sum ∙ ap (λ (n : ℕ). pulsesAll (pageWords (a .page .now) n)) e,
+      c .before .loop .inv .2 ∙ ap (λ (n : ℕ). putWords (a .page .now) (fillAll (pageWords (a .page .now) n))) e,
+    )
 
 pub fill-words-spec : {M : Type 1} → statement M
 fill-words-spec =
@@ -66,6 +94,9 @@ fill-words-spec =
     load-word-requires
     fill-word-requires
     store-word-requires
+    pulses-of-requires
+    cast-total
+    add-total
     add-i
     loop-less
     loop-again

@@ -1,20 +1,27 @@
--- The words of a page filled one after another: what holds before word i, and a turn for it. Assumes nothing.
+-- The words of a page filled one after another, and the pulses of it added up: what holds before word i, and a turn for it.
+-- Assumes nothing.
 use mathlib.Core.Bool.{Bool, false}
 use mathlib.Core.List.{List}
-use mathlib.Core.Path.{_≡_, sym, ap, ap₂, _∙_}
+use mathlib.Core.Path.{_≡_, refl, sym, ap, ap₂, _∙_}
 use Prim.Native.Nat.{ℕ, _+_, _*_, _≤_}
 use native.Mathlib.Omega.{arith}
 use lib.ListN.{length}
-use Rattle.cells.specs.Cells.{number, cells}
+use Rattle.cells.specs.Cells.{number, cells, pulses}
 use Rattle.cells.specs.Bytes.{Bytes}
 use Rattle.window.specs.Words.{start, pieces, wordAt, pageWords, putWord, putWords, Words}
 use Rattle.window.proofs.Words.{putWords-none, putWords-more, wordAt-putWords, length-pageWords, Words-pageWords, pageWords-more, length-wordAt}
-use Rattle.word.specs.Fill.{fill}
+use Rattle.word.specs.Fill.{fill, fillPulses}
 use Rattle.word.proofs.Filling.{length-fill}
 use Rattle.word.proofs.FreeCells.{cells-fill}
-use Rattle.rows.specs.Page.{fillAll}
-use Rattle.rows.proofs.SecondWords.{fillAll-more, length-fillAll, Words-fillAll}
+use Rattle.word.proofs.Pulses.{fillPulses-le, filled-pulses}
+use Rattle.rows.specs.Page.{fillAll, pulsesAll}
+use Rattle.rows.proofs.SecondWords.{fillAll-more, pulsesAll-more, length-fillAll, Words-fillAll}
 use Rattle.rows.proofs.Loaded.{loaded-cells}
+
+-- `total` is the pulses of the words before word i
+pub record Pulsing (page₀ : List ℕ) (total i : ℕ) : Type 0 where
+  pub few : total ≤ 46 * i
+  pub sum : total ≡ pulsesAll (pageWords page₀ i)
 
 module _ (page₀ : List ℕ) where
   -- the words before word i, filled
@@ -35,6 +42,9 @@ module _ (page₀ : List ℕ) where
   unfolding fillAll pageWords pieces
   filling-start b = sym (putWords-none page₀ b)
 
+  pub pulsing-start : Pulsing page₀ 0 0
+  pulsing-start = record { few = omega arith; sum = unfold pulsesAll pageWords pieces in refl }
+
   module _ (page : List ℕ) (i : ℕ) (r : Filling page i) (h : start i + 46 ≤ 8 * length page₀) where
     -- word i is still as it was
     filling-word : wordAt page i ≡ wordAt page₀ i
@@ -42,7 +52,17 @@ module _ (page₀ : List ℕ) where
         ap (λ (p : List ℕ). wordAt p i) r
         ∙ wordAt-putWords page₀ (done i) i (Words-done i (omega arith)) (omega (arith, length-done i)) (omega (arith, length-done i))
 
-    -- w is word i, and f is that word filled
+    -- w is word i, f that word filled, and p the pulses of it
+    pub pulsing-turn : (total w f p : ℕ) → w ≡ number (wordAt page i) → f ≡ number (fill (cells 46 w)) → p ≡ pulses (cells 46 w) (cells 46 f)
+        → Pulsing page₀ total i → Pulsing page₀ (total + p) (i + 1)
+    pulsing-turn total w f p ew ef ep m =
+        let v = wordAt page₀ i in
+        let e : p ≡ fillPulses v = ep ∙ filled-pulses w f ef ∙ ap fillPulses (loaded-cells page₀ i w h (ew ∙ ap number filling-word)) in
+        record {
+          few = omega (arith, m .few, e, fillPulses-le v, length-wordAt page₀ i h);
+          sum = omega (arith, m .sum, e, pulsesAll-more (pageWords page₀ i) v, ap pulsesAll (pageWords-more page₀ i));
+        }
+
     pub filling-turn : (w f : ℕ) (next : List ℕ) → w ≡ number (wordAt page i) → f ≡ number (fill (cells 46 w)) → next ≡ putWord page i (cells 46 f)
         → Filling next (i + 1)
     filling-turn w f next ew ef en =
