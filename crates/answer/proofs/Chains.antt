@@ -4,14 +4,13 @@ use mathlib.Core.Bool.{Bool, true, false, _||_}
 use mathlib.Core.List.{List, [], _∷_, _++_, append-nil}
 use mathlib.Core.Logic.{_↔_}
 use mathlib.Core.Path.{_≡_, refl, sym, ap, _∙_, subst}
-use Prim.Native.Nat.{ℕ, _^_, _<_}
+use Prim.Native.Nat.{ℕ}
 use native.Mathlib.Omega.{arith}
 use borrow.Author.Tests.{eq-eqb, ne-eqb, eqb-true}
 use lib.Dec.{T, eqb}
 use lib.ListN.{length, drop}
 use Rattle.cells.specs.Bytes.{atStart}
 use Rattle.answer.specs.Answer.{AnswerOf, Answer, result, refusal, Check, refuse, answer, after, None, numbers, among, RefusesBy}
-use Rattle.answer.specs.Layout.{Faithful, Small}
 
 -- ---- the answer of a list
 
@@ -123,12 +122,3 @@ module _ (a : Answer) (old new : List ℕ) where
 
   pub both-done : (x : ℕ) (now : List ℕ) → a ≡ result x → now ≡ new → (result x ≡ a) × (now ≡ after a old new)
   both-done x now e s = (sym e, s ∙ sym (taken-leaves a old new x e))
-
--- ---- the layout
-
--- no result and no index reaches the number's bits
-pub taken-apart : (cs : List Check) (x : ℕ) → Small cs → (None cs → x < 2 ^ 56) → Faithful (answer cs x)
-unfolding answer
-taken-apart [] x s h = let small = h tt in record { number = omega arith; value = omega arith }
-taken-apart (refuse true m j ∷ cs) x s h = let small = s .0 in record { number = omega arith; value = omega arith }
-taken-apart (refuse false m j ∷ cs) x s h = taken-apart cs x (s .1) (λ n. h (refl, n))

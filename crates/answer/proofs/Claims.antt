@@ -1,7 +1,8 @@
--- The claim of specs/Claims.antt.
+-- The claims of specs/Claims.antt.
 -- Assumes nothing.
-use Rattle.answer.specs.Claims.{FirstRefusalGiven}
-use Rattle.answer.proofs.Chains.{accepted, refused, no-other, still-refused, refused-leaves, taken-apart}
+use Rattle.answer.specs.Claims.{FirstRefusalGiven, TakenApart}
+use Rattle.answer.proofs.Chains.{accepted, refused, no-other, still-refused, refused-leaves}
+use Rattle.answer.proofs.Apart.{taken-apart, parts-apart}
 
 pub first-refusal-given : {A : Type 0} → FirstRefusalGiven A
 first-refusal-given = record {
@@ -10,5 +11,7 @@ first-refusal-given = record {
   no-other = no-other;
   still-refused = still-refused;
   refused-leaves = refused-leaves;
-  taken-apart = taken-apart;
 }
+
+pub taken-apart-again : TakenApart
+taken-apart-again = record { one = taken-apart; two = parts-apart }

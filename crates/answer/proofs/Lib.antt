@@ -1,4 +1,5 @@
--- Laws of checks in their order.
+-- Laws of checks in their order, and of packed answers.
 pub mod Tells
 pub mod Chains
+pub mod Apart
 pub mod Claims

@@ -1,12 +1,12 @@
--- What holds of every list of checks. proofs/Claims.antt proves it.
+-- What holds of every list of checks, and of the layout. proofs/Claims.antt proves it.
 -- Assumes nothing.
 use mathlib.Core.Bool.{Bool, true, false}
 use mathlib.Core.List.{List, _∷_, _++_}
 use mathlib.Core.Logic.{_↔_}
 use mathlib.Core.Path.{_≡_}
-use Prim.Native.Nat.{ℕ, _^_, _<_}
+use Prim.Native.Nat.{ℕ, _-_, _^_, _≤_, _<_}
 use Rattle.answer.specs.Answer.{Answer, result, refusal, Check, refuse, answer, after, None, numbers, among, RefusesBy}
-use Rattle.answer.specs.Layout.{Faithful, Small}
+use Rattle.answer.specs.Layout.{Faithful, FaithfulParts, Small}
 
 pub record FirstRefusalGiven (A : Type 0) : Type 0 where
   -- accepted exactly when no condition holds
@@ -20,5 +20,10 @@ pub record FirstRefusalGiven (A : Type 0) : Type 0 where
   pub still-refused : (cs ds : List Check) (x y : A) (n i : ℕ) → answer cs x ≡ refusal n i → answer (cs ++ ds) y ≡ refusal n i
   -- a refused call leaves a buffer as it was
   pub refused-leaves : (a : Answer) (old new : List ℕ) (n i : ℕ) → a ≡ refusal n i → after a old new ≡ old
-  -- a packed answer can be taken apart
-  pub taken-apart : (cs : List Check) (x : ℕ) → Small cs → (None cs → x < 2 ^ 56) → Faithful (answer cs x)
+
+-- A packed answer can be taken apart: where no result and no index reaches the number's bits, and where each part of a result of two keeps
+-- to its own bits.
+pub record TakenApart : Type 0 where
+  pub one : (cs : List Check) (x : ℕ) → Small cs → (None cs → x < 2 ^ 56) → Faithful (answer cs x)
+  pub two : (k : ℕ) (cs : List Check) (x y : ℕ) → k ≤ 56 → Small cs → (None cs → (x < 2 ^ k) × (y < 2 ^ (56 - k)))
+      → FaithfulParts k (answer cs (x, y))

@@ -1,10 +1,10 @@
 -- The one layout for C: an answer as a number of 64 bits. Bits 56 to 63 are the refusal's number, 0 for none; bits 0 to 55 are the
--- result, or the refusal's index.
+-- result, or the refusal's index. A result of two parts has the first in its low k bits, the second above them.
 -- Assumes nothing.
 use mathlib.Core.List.{List, [], _∷_}
 use mathlib.Core.Path.{_≡_}
-use Prim.Native.Nat.{ℕ, _+_, _*_, _/_, _%_, _^_, _<_}
-use Rattle.answer.specs.Answer.{Answer, result, refusal, Check, refuse}
+use Prim.Native.Nat.{ℕ, _+_, _-_, _*_, _/_, _%_, _^_, _<_}
+use Rattle.answer.specs.Answer.{AnswerOf, Answer, result, refusal, Check, refuse}
 
 abbrev pub packed : Answer → ℕ
 packed (result x) = x
@@ -23,6 +23,18 @@ valueOf (refusal n i) = i
 pub record Faithful (a : Answer) : Type 0 where
   pub number : packed a / 2 ^ 56 ≡ numberOf a
   pub value : packed a % 2 ^ 56 ≡ valueOf a
+
+-- an answer with a result of two parts as one with a result of one number
+abbrev pub joined : ℕ → AnswerOf (ℕ × ℕ) → Answer
+joined k (result p) = result (p .0 + p .1 * 2 ^ k)
+joined k (refusal n i) = refusal n i
+
+-- Such an answer can be taken apart as well, and so can its result: the two parts, taken out of the packed answer as the header's functions
+-- do, are those that were put in.
+pub record FaithfulParts (k : ℕ) (a : AnswerOf (ℕ × ℕ)) : Type 0 where
+  pub whole : Faithful (joined k a)
+  pub low : (x y : ℕ) → a ≡ result (x, y) → packed (joined k a) % 2 ^ k ≡ x
+  pub high : (x y : ℕ) → a ≡ result (x, y) → packed (joined k a) / 2 ^ k % 2 ^ (56 - k) ≡ y
 
 -- no index of a check reaches the number's bits
 abbrev pub Small : List Check → Type 0

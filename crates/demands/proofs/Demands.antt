@@ -2,19 +2,19 @@
 -- Assumes nothing.
 use mathlib.Core.List.{List, [], _++_}
 use mathlib.Core.Logic.{_↔_, _⊎_, inl, inr, ⊎-elim, Iff·trans}
-use mathlib.Core.Path.{_≡_, refl, sym, ap, _∙_}
+use mathlib.Core.Path.{_≡_, refl, sym, ap, ap₂, _∙_}
 use Prim.Native.Nat.{ℕ, _*_, _≤_, _<_}
 use native.Mathlib.Omega.{arith}
 use lib.Dec.{T}
 use lib.ListN.{length, drop, getD}
-use Rattle.cells.specs.Cells.{number, bit, cells}
+use Rattle.cells.specs.Cells.{number, bit, cells, pulses}
 use Rattle.cells.specs.Bytes.{Bytes, atStart}
 use Rattle.answer.specs.Answer.{result, refusal, answer, numbers}
 use Rattle.answer.proofs.Chains.{no-other, refused-leaves, taken-leaves, output-leaves}
 use Rattle.window.specs.Words.{pageWords}
 use Rattle.word.specs.Word.{sum, legalWord, zeckendorf}
-use Rattle.word.specs.Fill.{fill, capacity, setBeforeLast}
-use Rattle.word.specs.Answer.{legalChecks, encodeAnswer, decodeAnswer, capacityAnswer}
+use Rattle.word.specs.Fill.{fill, fillPulses, capacity, setBeforeLast}
+use Rattle.word.specs.Answer.{legalChecks, encodeAnswer, decodeAnswer, fillAnswer, capacityAnswer}
 use Rattle.word.proofs.Answers.{legal-taken}
 use Rattle.word.proofs.Claims.{one-legal-word, legal-accepted, capacity-bounds}
 use Rattle.rows.specs.Page.{page256, byte1, firstRecord, firstPage, filledPage, secondPage, secondRecord}
@@ -29,7 +29,7 @@ use Rattle.demands.proofs.FirstPages.{first-round, word-of, sum-of, wri
 use Rattle.demands.proofs.Bounds.{capacity-is, capacity-counts, room-of-fill, room-is, room-stays, bounds, least-filled, least-met, greatest-met, eighty-two}
 use Rattle.demands.proofs.Laid.{sound256}
 use Rattle.demands.proofs.TwiceWritten.{outcome-sized, outcome-Bytes, length-back, record-back, outcome-second, differ, second-exactly}
-use Rattle.demands.proofs.FilledPages.{filled-filled, second-filled, fill-clears-none, writing-clears-none, filled-exactly}
+use Rattle.demands.proofs.FilledPages.{filled-filled, second-filled, fill-clears-none, writing-clears-none, filled-exactly, fill-taken, fill-leaves}
 
 -- ---- demand 1, words
 
@@ -45,6 +45,15 @@ encodes value w h = (
 encodes-zeckendorf : (value w : ℕ) → value ≤ 4294967295
     → (encodeAnswer value ≡ result w) ↔ (T (legalWord w) × (w ≡ number (zeckendorf 46 value)))
 encodes-zeckendorf value w h = (λ e. (encodes value w h .0 e .0, cc), λ l. ap result (sym (l .1)))
+
+fills : (w v p : ℕ) → (fillAnswer w ≡ result (v, p))
+    ↔ (T (legalWord w) × (v ≡ number (fill (cells 46 w))) × (p ≡ pulses (cells 46 w) (fill (cells 46 w))))
+unfolding fillPulses
+fills w v p =
+    Iff·trans (legal-accepted .exactly w (number (fill (cells 46 w)), fillPulses (cells 46 w)) (v, p)) (
+      λ h. (h .0, ap (λ (q : ℕ × ℕ). q .0) (h .1), ap (λ (q : ℕ × ℕ). q .1) (h .1)),
+      λ h. (h .0, ap₂ (λ (a b : ℕ). (a, b)) (h .1) (h .2)),
+    )
 
 word-capacity : (w c : ℕ) → (capacityAnswer w ≡ result c) ↔ (T (legalWord w) × (c ≡ setBeforeLast (fill (cells 46 w))))
 word-capacity w c = Iff·trans (legal-accepted .exactly w _ c) (λ h. (h .0, h .1 ∙ counts (h .0)), λ h. (h .0, h .1 ∙ sym (counts (h .0))))
@@ -88,12 +97,12 @@ demand1 = record {
   encode-word = encodes;
   encode-zeckendorf = encodes-zeckendorf;
   decode-word = decodes;
-  fill-word = λ w v. legal-accepted .exactly w _ v;
+  fill-word = fills;
   word-capacity = word-capacity;
   write-first = write-first page256;
   read-first = read-first page256;
   page-capacity = page-capacity;
-  fill-page = λ P v. check-taken page256 P 0 v;
+  fill-page = λ P n. check-taken page256 P _ n;
   write-second = writes;
   read-second = read-seconds;
   decode-word-10-11-12 = λ w. legal-accepted .refused w _;
@@ -108,7 +117,7 @@ demand1 = record {
   page-capacity-5 = capacity-5 page256;
   page-capacity-6 = capacity-6 page256;
   page-capacity-7 = capacity-7 page256;
-  fill-page-1567 = λ P. check-refusals page256 P 0;
+  fill-page-1567 = λ P. check-refusals page256 P _;
   write-second-1567 = write-second-1567 page256;
   write-second-8 = writes-8;
   read-second-1 = read-second-1 page256;
@@ -124,7 +133,7 @@ demand1 = record {
   write-first-by = λ P D. no-other (writeFirstChecks page256 P D) 0;
   read-first-by = λ P out. no-other (readFirstChecks page256 P out) 0;
   page-capacity-by = λ P. no-other (capacityChecks page256 P) _;
-  fill-page-by = λ P. no-other (firstChecks page256 P) 0;
+  fill-page-by = λ P. no-other (firstChecks page256 P) _;
   write-second-by = λ P R. no-other (writeSecondChecks page256 P R) 0;
   read-second-by = λ P out. no-other (readSecondChecks page256 P out) (byte1 P);
   write-first-refused = λ P D n i. refused-leaves (writeFirstAnswer P D) P (firstPage page256 P D) n i;
@@ -135,12 +144,6 @@ demand1 = record {
 }
 
 -- ---- the pair: what filling a first-round page leaves, and what writing over that leaves
-
-fill-taken : (P : List ℕ) → FirstRound P → fillPageAnswer P ≡ result 0
-fill-taken P f = check-taken page256 P 0 0 (f .of-bytes) .1 (f, refl)
-
-fill-leaves : (P : List ℕ) → FirstRound P → fillPageLeaves P ≡ filledPage page256 P
-fill-leaves P f = taken-leaves (fillPageAnswer P) P (filledPage page256 P) 0 (fill-taken P f)
 
 leaves-filled : (P : List ℕ) → FirstRound P → Filled (fillPageLeaves P)
 leaves-filled P f = rw (fill-leaves P f) (filled-filled sound256 P f)

@@ -13,16 +13,20 @@ use Rattle.cells.specs.Cells.{bit, kept}
 use Rattle.cells.specs.Bytes.{bits}
 use Rattle.cells.proofs.Bytes.{Bytes-drop}
 use Rattle.cells.proofs.Kept.{kept-bits}
+use Rattle.answer.specs.Answer.{result}
+use Rattle.answer.proofs.Chains.{taken-leaves}
 use Rattle.window.specs.Words.{pageWords, Words}
 use Rattle.word.specs.Word.{legal}
 use Rattle.word.specs.Fill.{fill, isFilled}
 use Rattle.word.specs.Claims.{Legal}
 use Rattle.word.proofs.Claims.{well-formed-words}
 use Rattle.word.proofs.Filling.{length-fill}
-use Rattle.rows.specs.Page.{Shape, fillAll, capacityAll, readAll, putAll, outcomeOf, filledPage, secondPage, FirstRoundOf, FilledOf, FitsOf}
+use Rattle.rows.specs.Page.{Shape, page256, fillAll, capacityAll, readAll, putAll, outcomeOf, filledPage, secondPage, FirstRoundOf, FilledOf, FitsOf}
 use Rattle.rows.proofs.EachWord.{Each, each-sparse, each-word, Row}
 use Rattle.rows.proofs.SecondWords.{capacity-count, row-fillAll}
-use Rattle.filled.specs.Answer.{roomFilled}
+use Rattle.page.proofs.FirstAnswers.{check-taken}
+use Rattle.filled.specs.Answer.{pagePulses, fillPageAnswer, fillPageLeaves, roomFilled}
+use Rattle.demands.specs.Demands.{FirstRound}
 use Rattle.demands.proofs.Laid.{wordBytes, Sound, laid, tail, rewritten, laid-words, laid-tail, laid-first, laid-filled, laid-row, length-tail, laid-round, laid-round-filled, laid-filledPage, laid-secondPage}
 use Rattle.demands.proofs.Kept.{kept-fillAll, kept-putAll, header-filled, header-second, kept-laid}
 use Rattle.demands.proofs.TwiceWritten.{most-bytes, outcome-is, outcome-row, outcome-sized}
@@ -73,16 +77,16 @@ module _ {σ : Shape} (f : Sound σ) where
     abbrev words : List (List Bool)
     words = pageWords P n
 
-    row-of : Row n words
+    pub row-of : Row n words
     row-of = laid-row f P (p .sized)
 
-    row-filled : Row n (fillAll words)
+    pub row-filled : Row n (fillAll words)
     row-filled = row-fillAll n words row-of
 
     legal-of : Each legal words
     legal-of = each-word legal P n (p .words-legal)
 
-    filled-is : filledPage σ P ≡ laid 3 0 0 (fillAll words) (tail m P)
+    pub filled-is : filledPage σ P ≡ laid 3 0 0 (fillAll words) (tail m P)
     filled-is = rw (p .byte1-zero, p .byte2-zero) at (laid-filledPage f P (p .of-bytes) (p .sized))
 
     pub filled-words : pageWords (filledPage σ P) n ≡ fillAll words
@@ -102,12 +106,14 @@ module _ {σ : Shape} (f : Sound σ) where
     filled-room = ap (λ (ws : List (List Bool)). length (readAll ws)) filled-words ∙ sym (capacity-count words)
 
     -- no cell is cleared
-    pub fill-clears-none : (i b : ℕ) → T (bit (getD P i 0) b) → T (bit (getD (filledPage σ P) i 0) b)
-    fill-clears-none =
-        kept-bits P (filledPage σ P) (p .sized ∙ sym (filled-filled .sized)) (p .of-bytes)
-        (rw filled-is (subst (λ (Q : List ℕ). T (kept (bits Q) (bits (laid 3 0 0 (fillAll words) (tail m P)))))
+    pub fill-kept : T (kept (bits P) (bits (filledPage σ P)))
+    fill-kept =
+        rw filled-is (subst (λ (Q : List ℕ). T (kept (bits Q) (bits (laid 3 0 0 (fillAll words) (tail m P)))))
         (laid-round f P p)
-        (kept-laid f 1 3 0 words (fillAll words) (tail m P) row-of row-filled header-filled (kept-fillAll words))))
+        (kept-laid f 1 3 0 words (fillAll words) (tail m P) row-of row-filled header-filled (kept-fillAll words)))
+
+    pub fill-clears-none : (i b : ℕ) → T (bit (getD P i 0) b) → T (bit (getD (filledPage σ P) i 0) b)
+    fill-clears-none = kept-bits P (filledPage σ P) (p .sized ∙ sym (filled-filled .sized)) (p .of-bytes) fill-kept
 
     module _ (R : List ℕ) (r : FitsOf σ R P) where
       -- the two writings together give the outcome
@@ -155,3 +161,11 @@ module _ {σ : Shape} (f : Sound σ) where
         (first-of F q (o .0) (o .1), first-round-of F q (o .0) (o .1), filled-of F q (o .0) (o .1)),
     λ h. subst (FilledOf σ) (h .2) (filled-filled (h .0) (h .1)),
   )
+
+-- ---- document 01's page: what fill page answers and leaves
+
+pub fill-taken : (P : List ℕ) → FirstRound P → fillPageAnswer P ≡ result (pagePulses page256 P)
+fill-taken P f = check-taken page256 P _ _ (f .of-bytes) .1 (f, refl)
+
+pub fill-leaves : (P : List ℕ) → FirstRound P → fillPageLeaves P ≡ filledPage page256 P
+fill-leaves P f = taken-leaves (fillPageAnswer P) P (filledPage page256 P) _ (fill-taken P f)

@@ -72,6 +72,11 @@ module _ {σ : Shape} (f : Sound σ) where
     pub laid-bits : bits (laid a b c ws t) ≡ bits (a ∷ b ∷ c ∷ []) ++ (join ws ++ bits t)
     laid-bits = bits-pageOf ws m (r .1) (whole-row ws r) (a ∷ b ∷ c ∷ []) t
 
+    -- without its first three bytes
+    pub laid-rest : bits (drop 3 (laid a b c ws t)) ≡ join ws ++ bits t
+    unfolding pageOf bits
+    laid-rest = bits-pageOf ws m (r .1) (whole-row ws r) [] t
+
     pub laid-words : pageWords (laid a b c ws t) n ≡ ws
     laid-words = ap (pageWords (laid a b c ws t)) (sym (r .0)) ∙ pageWords-pageOf ws m (r .1) (whole-row ws r) (a ∷ b ∷ c ∷ []) t refl
 

@@ -1,4 +1,4 @@
--- The proof of the demands (Demands.antt), and the laws that only it needs.
+-- The proofs of the demands (Demands.antt) and of a page's pulses (Pulses.antt), and the laws that only they need.
 pub mod Origins
 pub mod Laid
 pub mod Kept
@@ -6,4 +6,5 @@ pub mod FirstPages
 pub mod TwiceWritten
 pub mod FilledPages
 pub mod Bounds
+pub mod Pulses
 pub mod Demands

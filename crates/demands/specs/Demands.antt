@@ -1,4 +1,5 @@
--- The customer's three demands, clause by clause, in the terms of document 01 and of document 02, Change 2. proofs/Demands.antt proves each.
+-- The customer's three demands, clause by clause, in the terms of document 01 and of document 02, Changes 2 and 3. proofs/Demands.antt proves
+-- each.
 -- The contracts in src/ of word, page, filled, second and wom tie the running code to `decodeAnswer`, `writeFirstAnswer`, `writeFirstLeaves`
 -- and the others of specs/Answer.antt in word, page, filled and second: what each operation answers, and what each buffer holds afterwards,
 -- for every value, word, page, record and output.
@@ -13,7 +14,7 @@
 --   T b                    the test b holds; b ≡ false: it does not
 --   Bytes P                each element is below 256, as it is in every slice of the code
 --   getD P i 0             byte i of P, 0 after its end; `take`, `drop`: the first so many, the others; `++`: one after another
---   result v, refusal n i  the answer is the result v; it is refusal number n with index i
+--   result v, refusal n i  the answer is the result v; it is refusal number n with index i; `result (v, p)`: the results v and p
 -- Assumes nothing.
 use mathlib.Core.Bool.{Bool}
 use mathlib.Core.List.{List, [], _∷_, _++_}
@@ -22,7 +23,7 @@ use mathlib.Core.Path.{_≡_}
 use Prim.Native.Nat.{ℕ, _+_, _*_, _≤_, _<_}
 use lib.Dec.{T}
 use lib.ListN.{length, take, drop, getD}
-use Rattle.cells.specs.Cells.{number, cells, bit, someSet}
+use Rattle.cells.specs.Cells.{number, cells, bit, someSet, pulses}
 use Rattle.cells.specs.Bytes.{bits, Bytes}
 use Rattle.answer.specs.Answer.{Answer, result, refusal, RefusesBy}
 use Rattle.window.specs.Words.{wordAt, pageWords}
@@ -33,7 +34,7 @@ use Rattle.word.specs.Claims.{WordRefusals}
 use Rattle.rows.specs.Page.{page256, state, byte1, byte2, blankOf, FirstRoundOf, FilledOf, SecondRoundOf, FitsOf, outcomeOf, fillAll, capacityAll, secondBitsOf}
 use Rattle.page.specs.Terms.{SizedOf, HeaderOf, AllPassOf, LowestBadOf, RefusalsOf}
 use Rattle.page.specs.Answer.{writeFirstAnswer, writeFirstLeaves, readFirstAnswer, readFirstLeaves}
-use Rattle.filled.specs.Answer.{fillPageAnswer, fillPageLeaves, pageCapacityAnswer}
+use Rattle.filled.specs.Answer.{pagePulses, fillPageAnswer, fillPageLeaves, pageCapacityAnswer}
 use Rattle.second.specs.Terms.{SecondHeaderOf}
 use Rattle.second.specs.Answer.{writeSecondAnswer, writeSecondLeaves, readSecondAnswer, readSecondLeaves}
 
@@ -112,9 +113,11 @@ pub record Demand1 : Type 0 where
   pub encode-word : (value w : ℕ) → value ≤ 4294967295 → (encodeAnswer value ≡ result w) ↔ (T (legalWord w) × (value ≡ sum (cells 46 w)))
   pub encode-zeckendorf : (value w : ℕ) → value ≤ 4294967295
       → (encodeAnswer value ≡ result w) ↔ (T (legalWord w) × (w ≡ number (zeckendorf 46 value)))
-  -- Decode, fill, or measure a word: the legal words. "Returns value, filled word, or capacity": the number of data cells after the fill
+  -- Decode, fill, or measure a word: the legal words. "Returns value, filled word, or capacity": the number of data cells after the fill. The
+  -- word fill returns, "besides the word, how many cells it newly set": its pulses, set cells after minus set cells before
   pub decode-word : (w v : ℕ) → (decodeAnswer w ≡ result v) ↔ (T (legalWord w) × (v ≡ sum (cells 46 w)))
-  pub fill-word : (w v : ℕ) → (fillAnswer w ≡ result v) ↔ (T (legalWord w) × (v ≡ number (fill (cells 46 w))))
+  pub fill-word : (w v p : ℕ) → (fillAnswer w ≡ result (v, p))
+      ↔ (T (legalWord w) × (v ≡ number (fill (cells 46 w))) × (p ≡ pulses (cells 46 w) (fill (cells 46 w))))
   pub word-capacity : (w c : ℕ) → (capacityAnswer w ≡ result c) ↔ (T (legalWord w) × (c ≡ setBeforeLast (fill (cells 46 w))))
   -- The page operations
   pub write-first : (P D : List ℕ) (v : ℕ) → (writeFirstAnswer P D ≡ result v) ↔ ((P ≡ blank) × (length D ≡ 176) × (v ≡ 0))
@@ -122,7 +125,8 @@ pub record Demand1 : Type 0 where
   -- "Page capacity serves both states"
   pub page-capacity : (P : List ℕ) (c : ℕ) → Bytes P
       → (pageCapacityAnswer P ≡ result c) ↔ ((FirstRound P × (c ≡ dataCells P)) ⊎ (Filled P × (c ≡ filledCells P)))
-  pub fill-page : (P : List ℕ) (v : ℕ) → Bytes P → (fillPageAnswer P ≡ result v) ↔ (FirstRound P × (v ≡ 0))
+  -- "Filling a page returns the sum over its words" (specs/Pulses.antt says more of it)
+  pub fill-page : (P : List ℕ) (n : ℕ) → Bytes P → (fillPageAnswer P ≡ result n) ↔ (FirstRound P × (n ≡ pagePulses page256 P))
   pub write-second : (P R : List ℕ) (v : ℕ) → Bytes P
       → (writeSecondAnswer P R ≡ result v) ↔ (Filled P × (8 * length R ≤ filledCells P) × (v ≡ 0))
   pub read-second : (P out : List ℕ) (n : ℕ) → Bytes P → (readSecondAnswer P out ≡ result n) ↔ (SecondRound P × (n ≡ byte1 P) × (n ≤ length out))
@@ -210,8 +214,8 @@ pub record Demand2 : Type 0 where
 -- Demand 3, which "speaks of the pair, as demand 2 does". For all first-round pages P and Q, every record R that fits P and every record S
 -- that fits Q: ...
 pub record Demand3 : Type 0 where
-  -- filling P is accepted, and leaves a filled page
-  pub fill-accepted : (P : List ℕ) → FirstRound P → (fillPageAnswer P ≡ result 0) × Filled (fillPageLeaves P)
+  -- filling P is accepted, returns its pulses, and leaves a filled page
+  pub fill-accepted : (P : List ℕ) → FirstRound P → (fillPageAnswer P ≡ result (pagePulses page256 P)) × Filled (fillPageLeaves P)
   -- "writing R over P is accepted, leaves exactly the outcome that the rules define": writing over what filling leaves
   pub accepted : (P R : List ℕ) → FirstRound P → Fits R P
       → (writeSecondAnswer (fillPageLeaves P) R ≡ result 0) × (writeSecondLeaves (fillPageLeaves P) R ≡ outcome P R)

@@ -35,7 +35,7 @@ module _ (s : Shape) (P R : List ℕ) where
   unfolding writeSecondChecks numbers among
   write-second-1567 = filled-refusals s P _ 0 (refl, refl, refl, refl)
 
-  pub write-second-8 : (c : ℕ) → Bytes P → (answer (writeSecondChecks s P R) 0 ≡ refusal 8 c) ↔ (FilledOf s P × (room < 8 * length R) × (c ≡ room))
+  pub write-second-8 : (c : ℕ) → Bytes P → (answer {A = ℕ} (writeSecondChecks s P R) 0 ≡ refusal 8 c) ↔ (FilledOf s P × (room < 8 * length R) × (c ≡ room))
   unfolding writeSecondChecks numbers among
   write-second-8 c b = Iff·trans (filled-later s P _ 0 8 c b (omega arith) (just (less room (8 * length R)) 8 room _ 0 refl c)) flat3
 

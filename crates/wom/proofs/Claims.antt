@@ -1,4 +1,4 @@
--- Each operation's packed answer gives its two parts back: every result and every index is below 2 ^ 56.
+-- Each operation's packed answer gives its parts back: every result and every index is below 2 ^ 56.
 -- Assumes nothing.
 use mathlib.Core.Bool.{Bool, true, false, cond}
 use mathlib.Core.List.{List, [], _∷_, _++_}
@@ -11,18 +11,19 @@ use Rattle.cells.specs.Cells.{cells}
 use Rattle.cells.specs.Bytes.{bits}
 use Rattle.cells.proofs.Numbers.{length-cells}
 use Rattle.answer.specs.Answer.{Check, refuse, answer, None}
-use Rattle.answer.specs.Layout.{Faithful, Small}
-use Rattle.answer.proofs.Chains.{taken-apart}
+use Rattle.answer.specs.Layout.{Faithful, FaithfulParts, Small}
+use Rattle.answer.proofs.Apart.{taken-apart, parts-apart}
 use Rattle.answer.proofs.Tells.{less, unequal, either}
 use Rattle.window.specs.Words.{pieces, pageWords}
 use Rattle.window.proofs.Words.{length-pageWords}
-use Rattle.word.specs.Fill.{wellFormed, isFilled, fill, read, capacity}
+use Rattle.word.specs.Fill.{wellFormed, isFilled, fill, fillPulses, read, capacity}
 use Rattle.word.specs.Word.{legal}
-use Rattle.word.specs.Answer.{legalChecks, ifLegal}
+use Rattle.word.specs.Answer.{legalChecks, ifLegal, fillAnswer}
 use Rattle.word.proofs.Sums.{sum-fits, word-lt}
 use Rattle.word.proofs.Filling.{capacity-le, length-fill}
 use Rattle.word.proofs.FreeCells.{fill-lt}
-use Rattle.rows.specs.Page.{page256, state, byte1, byte2, lowest, capacityAll, readAll}
+use Rattle.word.proofs.Pulses.{fillPulses-le}
+use Rattle.rows.specs.Page.{page256, state, byte1, byte2, lowest, pulsesAll, capacityAll, readAll}
 use Rattle.rows.proofs.Lowest.{lowest-le}
 use Rattle.page.specs.Answer.{writeFirstChecks, stateChecks, firstChecks, readFirstChecks}
 use Rattle.filled.specs.Answer.{filledChecks, capacityChecks, roomFilled, roomOf}
@@ -44,16 +45,32 @@ unfolding capacity read fill
 capacity-small w =
     omega (arith, capacity-le false (fill (cells 46 w)), length-fill false (cells 46 w), length-cells 46 w)
 
+pub fill-parts : (w : ℕ) → FaithfulParts 48 (fillAnswer w)
+unfolding legalChecks
+fill-parts w =
+    parts-apart 48 (legalChecks w) _ _ (omega arith) (omega arith, (omega arith, (omega arith, tt)))
+    (λ n. (omega (arith, fill-lt w), omega (arith, fillPulses-le (cells 46 w), length-cells 46 w)))
+
 pub word-answers-faithful : WordAnswersFaithful
 unfolding answer
 word-answers-faithful = record {
   encode = λ value. taken-apart [] _ tt (λ n. omega (arith, word-lt value));
   decode = λ word. over-word word _ (omega (arith, sum-fits word));
-  fill = λ word. over-word word _ (omega (arith, fill-lt word));
+  fill = fill-parts;
   capacity = λ word. over-word word _ (capacity-small word);
 }
 
 -- ---- pages
+
+pulses-small : (n : ℕ) (l : List Bool) → pulsesAll (pieces n l) ≤ 46 * n
+unfolding pulsesAll pieces
+pulses-small zero l = omega arith
+pulses-small (suc n) l =
+    omega (arith, length-take 46 l, min-le-left 46 (length l), fillPulses-le (take 46 l), pulses-small n (drop 46 l))
+
+fill-small : (P : List ℕ) → pulsesAll (pageWords P 44) < 2 ^ 56
+unfolding pageWords
+fill-small P = omega (arith, pulses-small 44 (drop 24 (bits P)))
 
 capacities-small : (n : ℕ) (l : List Bool) → capacityAll (pieces n l) ≤ 23 * n
 unfolding capacityAll pieces capacity read fill
@@ -126,7 +143,7 @@ page-answers-faithful = record {
   read-first = λ P out. taken-apart (readFirstChecks page256 P out) 0 (state-one 1 legal P (ltb (length out) 176) 3 0 (omega arith)) (λ n. omega arith);
   page-capacity = λ P.
       taken-apart (capacityChecks page256 P) (roomOf page256 P) (omega arith, (omega arith, (omega arith, (word-small _ P, tt)))) (λ n. room-small P);
-  fill-page = λ P. taken-apart (firstChecks page256 P) 0 (state-small 1 legal P [] tt) (λ n. omega arith);
+  fill-page = λ P. taken-apart (firstChecks page256 P) _ (state-small 1 legal P [] tt) (λ n. fill-small P);
   write-second = λ P R.
       let room = roomFilled page256 P in
       taken-apart (writeSecondChecks page256 P R) 0 (state-one 3 isFilled P (ltb room (8 * length R)) 8 room (filled-small P)) (λ n. omega arith);

@@ -1,8 +1,9 @@
--- Every answer of every entry can be taken apart: no result and no index runs into the refusal's number. proofs/Claims.antt proves it.
+-- Every answer of every entry can be taken apart: no result and no index runs into the refusal's number, and the two parts of the word
+-- fill's result, the word and the pulses, can be told apart. proofs/Claims.antt proves it.
 -- Assumes nothing.
 use mathlib.Core.List.{List}
 use Prim.Native.Nat.{ℕ}
-use Rattle.answer.specs.Layout.{Faithful}
+use Rattle.answer.specs.Layout.{Faithful, FaithfulParts}
 use Rattle.word.specs.Answer.{encodeAnswer, decodeAnswer, fillAnswer, capacityAnswer}
 use Rattle.page.specs.Answer.{writeFirstAnswer, readFirstAnswer}
 use Rattle.filled.specs.Answer.{fillPageAnswer, pageCapacityAnswer}
@@ -13,7 +14,7 @@ use Rattle.transfer.specs.Answer.{writeFileAnswer}
 pub record WordAnswersFaithful : Type 0 where
   pub encode : (value : ℕ) → Faithful (encodeAnswer value)
   pub decode : (word : ℕ) → Faithful (decodeAnswer word)
-  pub fill : (word : ℕ) → Faithful (fillAnswer word)
+  pub fill : (word : ℕ) → FaithfulParts 48 (fillAnswer word)
   pub capacity : (word : ℕ) → Faithful (capacityAnswer word)
 
 -- and for every page, record and output; for every device number, all pages and every output

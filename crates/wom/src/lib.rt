@@ -1,7 +1,8 @@
 // The entry points for C, thin: each calls one operation and packs its answer. include/wom.h declares them.
 //
 // Bits 56 to 63 of an answer are the refusal's number, 0 for none; bits 0 to 55 are the result, or the refusal's index: the word's for 7,
-// the capacity for 8, else 0. Every entry is defined for every argument.
+// the capacity for 8, else 0. The word fill's result has the word in bits 0 to 47 and the pulses in bits 48 to 55. Every entry is defined for
+// every argument.
 use filled::PageFilled;
 use page::FirstRead;
 use page::FirstWritten;
@@ -15,7 +16,7 @@ use word::Measured;
 ghost use mathlib.Core.Path.{_≡_};
 ghost use Prim.Native.Nat.{_<_};
 ghost use Rattle.answer.specs.Answer.{refusal};
-ghost use Rattle.answer.specs.Layout.{packed};
+ghost use Rattle.answer.specs.Layout.{packed, joined, FaithfulParts};
 ghost use Rattle.word.specs.Answer.{encodeAnswer, decodeAnswer, fillAnswer, capacityAnswer, encodedCode, decodedCode, filledCode, measuredCode};
 ghost use Rattle.page.specs.Answer.{writeFirstAnswer, writeFirstLeaves, readFirstAnswer, readFirstLeaves, firstWrittenCode, firstReadCode};
 ghost use Rattle.filled.specs.Answer.{fillPageAnswer, fillPageLeaves, pageCapacityAnswer, pageFilledCode};
@@ -86,20 +87,21 @@ pub extern "C" fn wom_decode_word(word: u64) -> u64
 }
 
 fn pack_filled(f: Filled) -> u64
-    ensures { λ r. ⌜ r ≡ packed (filledCode f) ⌝ }
+    requires { ⌜ FaithfulParts 48 (filledCode f) ⌝ }
+    ensures { λ r. ⌜ r ≡ packed (joined 48 (filledCode f)) ⌝ }
 {
     match f {
-        Filled::Word(w) => w,
+        Filled::Word(w, p) => w + (p << 48),
         Filled::HighBit => HIGH_BIT,
         Filled::Neighbours => NEIGHBOURS,
         Filled::SumTooLarge => SUM_TOO_LARGE,
     }
 }
 
-// The word after the fill, or 10, 11 or 12.
+// The word after the fill and the pulses of the fill, or 10, 11 or 12.
 #[no_mangle]
 pub extern "C" fn wom_fill_word(word: u64) -> u64
-    ensures { λ r. ⌜ r ≡ packed (fillAnswer word) ⌝ }
+    ensures { λ r. ⌜ r ≡ packed (joined 48 (fillAnswer word)) ⌝ }
 {
     pack_filled(word::fill(word))
 }

@@ -8,6 +8,12 @@ use Rattle.filled.specs.Answer.{pageFilledCode}
 use Rattle.wom.proofs.pack_page_filled.Statement.{statement}
 use Rattle.wom.proofs.pack_page_filled.Tie as tie
 
+enum-known-f : tie.Need-enum-known-f
+enum-known-f c = search needs
+
+cast-result : tie.Need-cast-result
+cast-result c = search needs
+
 enum-told : tie.Need-enum-told
 enum-told c = search needs
 
@@ -17,11 +23,8 @@ enum-told-2 c = search needs
 enum-told-3 : tie.Need-enum-told-3
 enum-told-3 c = search needs
 
-enum-told-4 : tie.Need-enum-told-4
-enum-told-4 c = search needs
-
-enum-known-f : tie.Need-enum-known-f
-enum-known-f c = search needs
+enum-known-f-2 : tie.Need-enum-known-f-2
+enum-known-f-2 c = search needs
 
 with-index-requires : tie.Need-with-index-requires
 with-index-requires c κs = search needs
@@ -39,17 +42,18 @@ returns-4 : tie.Need-returns-4
 returns-4 c = search needs
 
 returns-5 : tie.Need-returns-5
-returns-5 c = c .with-index .ensures ∙ sym (ap (λ (x : PageFilled). packed (pageFilledCode x)) (c .before .before .f .given .1))
+returns-5 c = c .with-index .ensures ∙ sym (ap (λ (x : PageFilled). packed (pageFilledCode x)) (c .before .before .f2 .given .1))
 
 pub pack-page-filled-spec : {M : Type 1} → statement M
 pack-page-filled-spec =
     tie.close
     (tie.spec
+    enum-known-f
+    cast-result
     enum-told
     enum-told-2
     enum-told-3
-    enum-told-4
-    enum-known-f
+    enum-known-f-2
     with-index-requires
     returns
     returns-2

@@ -1,0 +1,162 @@
+-- The pulses of a page's fill, over any sound shape of page, and the claim of specs/Pulses.antt.
+-- Assumes nothing.
+use mathlib.Core.Bool.{Bool}
+use mathlib.Core.List.{List, [], _∷_, _++_}
+use mathlib.Core.Path.{_≡_, refl, sym, ap, _∙_, subst}
+use Prim.Native.Nat.{ℕ, zero, suc, _+_, _*_, _≤_}
+use native.Mathlib.Nat.{suc-mul}
+use native.Mathlib.Omega.{arith}
+use lib.ListN.{length, drop, replicate}
+use Rattle.cells.specs.Cells.{first, rest, bit, cells, setCells, newlySet}
+use Rattle.cells.specs.Bytes.{bits, Bytes}
+use Rattle.cells.proofs.Bytes.{length-bits}
+use Rattle.cells.proofs.Pulses.{setCells-append, pulses-newly, pulses-exact}
+use Rattle.answer.specs.Answer.{result}
+use Rattle.window.specs.Words.{join, pageWords, Words}
+use Rattle.word.specs.Word.{legal}
+use Rattle.word.specs.Fill.{fill, fillPulses}
+use Rattle.word.specs.Claims.{Legal}
+use Rattle.word.proofs.Claims.{pulse-bounds}
+use Rattle.rows.specs.Page.{Shape, page256, state, fillAll, pulsesAll, filledPage, FirstRoundOf}
+use Rattle.rows.proofs.EachWord.{Each, each-word, each-replicate, row-replicate}
+use Rattle.page.proofs.FirstAnswers.{check-taken}
+use Rattle.filled.specs.Answer.{pagePulses, fillPageAnswer, fillPageLeaves}
+use Rattle.demands.specs.Demands.{FirstRound}
+use Rattle.demands.specs.Pulses.{PulsesOfAFill}
+use Rattle.demands.proofs.Laid.{wordBytes, Sound, sound256, laid, tail, laid-bits, laid-rest, laid-words, laid-first, laid-round}
+use Rattle.demands.proofs.FilledPages.{row-of, row-filled, filled-is, filled-filled, fill-kept, fill-taken, fill-leaves}
+
+-- ---- words
+
+cells-fillAll : (ws : List (List Bool)) → setCells (join ws) + pulsesAll ws ≡ setCells (join (fillAll ws))
+unfolding join fillAll pulsesAll
+cells-fillAll [] = omega arith
+cells-fillAll (w ∷ ws) =
+    omega (
+      arith,
+      setCells-append w (join ws),
+      setCells-append (fill w) (join (fillAll ws)),
+      pulse-bounds .exact w,
+      cells-fillAll ws,
+    )
+
+pulses-most : (ws : List (List Bool)) → Words ws → Each legal ws → pulsesAll ws ≤ 23 * length ws
+unfolding pulsesAll
+pulses-most [] h t = omega arith
+pulses-most (w ∷ ws) h t = omega (arith, pulse-bounds .greatest w (h .0, t .0), pulses-most ws (h .1) (t .1))
+
+pulses-replicate : (n : ℕ) (w : List Bool) → pulsesAll (replicate n w) ≡ n * fillPulses w
+unfolding pulsesAll
+pulses-replicate zero w = omega arith
+pulses-replicate (suc n) w = omega (arith, pulses-replicate n w, suc-mul n (fillPulses w))
+
+-- ---- pages
+
+header-cells : (setCells (bits (3 ∷ 0 ∷ 0 ∷ [])) ≡ 2) × (setCells (bits (1 ∷ 0 ∷ 0 ∷ [])) ≡ 1)
+unfolding setCells bits cells bit
+header-cells = (refl, refl)
+
+module _ {σ : Shape} (f : Sound σ) (P : List ℕ) (p : FirstRoundOf σ P) where
+  abbrev n : ℕ
+  n = σ .words
+
+  abbrev words : List (List Bool)
+  words = pageWords P n
+
+  abbrev t : List ℕ
+  t = tail (wordBytes σ) P
+
+  most-of : pagePulses σ P ≤ 23 * n
+  most-of = omega (arith, row-of f P p .0, pulses-most words (row-of f P p .1) (each-word legal P n (p .words-legal)))
+
+  -- before and after, without the header
+  rest-before : bits (drop 3 P) ≡ join words ++ bits t
+  rest-before = ap (λ (Q : List ℕ). bits (drop 3 Q)) (sym (laid-round f P p)) ∙ laid-rest f 1 0 0 words (row-of f P p) t
+
+  rest-after : bits (drop 3 (filledPage σ P)) ≡ join (fillAll words) ++ bits t
+  rest-after = ap (λ (Q : List ℕ). bits (drop 3 Q)) (filled-is f P p) ∙ laid-rest f 3 0 0 (fillAll words) (row-filled f P p) t
+
+  cells-of : setCells (bits (drop 3 P)) + pagePulses σ P ≡ setCells (bits (drop 3 (filledPage σ P)))
+  cells-of =
+      omega (
+        arith,
+        ap setCells rest-before,
+        ap setCells rest-after,
+        setCells-append (join words) (bits t),
+        setCells-append (join (fillAll words)) (bits t),
+        cells-fillAll words,
+      )
+
+  -- the whole page
+  whole-before : bits P ≡ bits (1 ∷ 0 ∷ 0 ∷ []) ++ (join words ++ bits t)
+  whole-before = ap bits (sym (laid-round f P p)) ∙ laid-bits f 1 0 0 words (row-of f P p) t
+
+  whole-after : bits (filledPage σ P) ≡ bits (3 ∷ 0 ∷ 0 ∷ []) ++ (join (fillAll words) ++ bits t)
+  whole-after = ap bits (filled-is f P p) ∙ laid-bits f 3 0 0 (fillAll words) (row-filled f P p) t
+
+  whole-of : newlySet (bits P) (bits (filledPage σ P)) ≡ pagePulses σ P + 1
+  whole-of =
+      let F = filledPage σ P in
+      let s = filled-filled f P p in
+      let l : length (bits F) ≡ length (bits P) = omega (arith, length-bits F, length-bits P, s .sized, p .sized) in
+      omega (
+        arith,
+        header-cells,
+        ap setCells whole-before,
+        ap setCells whole-after,
+        setCells-append (bits (1 ∷ 0 ∷ 0 ∷ [])) (join words ++ bits t),
+        setCells-append (bits (3 ∷ 0 ∷ 0 ∷ [])) (join (fillAll words) ++ bits t),
+        setCells-append (join words) (bits t),
+        setCells-append (join (fillAll words)) (bits t),
+        cells-fillAll words,
+        pulses-newly (bits P) (bits F) l (fill-kept f P p),
+        pulses-exact (bits P) (bits F) l (fill-kept f P p),
+      )
+
+  state-of : newlySet (cells 8 (state P)) (cells 8 (state (filledPage σ P))) ≡ 1
+  unfolding newlySet cells bit first rest
+  state-of = rw (p .in-state, filled-filled f P p .in-state) refl
+
+-- ---- document 01's page
+
+-- what is answered is the page's pulses, and the page is a first-round page
+module _ (P : List ℕ) (n : ℕ) (b : Bytes P) (e : fillPageAnswer P ≡ result n) where
+  given : FirstRound P × (n ≡ pagePulses page256 P)
+  given = check-taken page256 P _ n b .0 e
+
+  abbrev first-round : FirstRound P
+  first-round = given .0
+
+  most : n ≤ 1012
+  most = omega (arith, given .1, most-of sound256 P first-round)
+
+  cells-after : setCells (bits (drop 3 P)) + n ≡ setCells (bits (drop 3 (fillPageLeaves P)))
+  cells-after = rw (given .1, fill-leaves P first-round) (cells-of sound256 P first-round)
+
+  state-after : newlySet (cells 8 (state P)) (cells 8 (state (fillPageLeaves P))) ≡ 1
+  state-after = rw (fill-leaves P first-round) (state-of sound256 P first-round)
+
+  whole-after-fill : newlySet (bits P) (bits (fillPageLeaves P)) ≡ n + 1
+  whole-after-fill = rw (given .1, fill-leaves P first-round) (whole-of sound256 P first-round)
+
+-- the page of 44 times one word
+all-alike : (w : List Bool) (c : ℕ) → Legal w → fillPulses w ≡ c → (P : List ℕ) × FirstRound P × (fillPageAnswer P ≡ result (44 * c))
+all-alike w c h e =
+    let ws = replicate 44 w in
+    let r = row-replicate 44 w (h .0) in
+    let P = laid 1 0 0 ws [] in
+    let f : FirstRound P = laid-first sound256 ws [] r (each-replicate legal 44 w (h .1)) (λ i. omega arith) refl in
+    let k : pulsesAll (pageWords P 44) ≡ 44 * c =
+    ap pulsesAll (laid-words sound256 1 0 0 ws r []) ∙ pulses-replicate 44 w ∙ ap (λ (n : ℕ). 44 * n) e in
+    (P, f, fill-taken P f ∙ ap result k)
+
+pub pulses-of-a-fill : PulsesOfAFill
+pulses-of-a-fill = record {
+  sum = λ P n b e. given P n b e .1;
+  greatest = most;
+  least-met = let m = pulse-bounds .least-met in all-alike (m .0) 0 (m .1) (m .2);
+  greatest-met = let m = pulse-bounds .greatest-met in all-alike (m .0) 23 (m .1) (m .2);
+  cells-3-to-255 = cells-after;
+  state-byte = state-after;
+  whole-page = whole-after-fill;
+}
