@@ -86,18 +86,34 @@ static unsigned count_data_cells(uint64_t filled)
     return count;
 }
 
+/* The cells that are set in the filled word and not in the legal one. */
+static unsigned count_pulses(uint64_t word, uint64_t filled)
+{
+    unsigned count = 0;
+    int n;
+
+    for (n = 45; n >= 0; n--)
+        if (cell(filled, n) && !cell(word, n))
+            count++;
+    return count;
+}
+
 uint64_t plain_fill_word(uint64_t word)
 {
     uint64_t refused = plain_decode_word(word);
+    uint64_t filled;
 
-    return refused >> 56 ? refused : fill(word);
+    if (refused >> 56)
+        return refused;
+    filled = fill(word);
+    return filled + ((uint64_t)count_pulses(word, filled) << 48);
 }
 
 uint64_t plain_word_capacity(uint64_t word)
 {
-    uint64_t filled = plain_fill_word(word);
+    uint64_t refused = plain_decode_word(word);
 
-    return filled >> 56 ? filled : count_data_cells(filled);
+    return refused >> 56 ? refused : count_data_cells(fill(word));
 }
 
 /* ---- Pages ------------------------------------------------------------- */
@@ -226,14 +242,20 @@ uint64_t plain_read_first(const uint8_t *page, size_t page_length,
 uint64_t plain_fill_page(uint8_t *page, size_t page_length)
 {
     uint64_t refused = check_first_round(page, page_length);
+    uint64_t pulses = 0;
     int w;
 
     if (refused)
         return refused;
-    for (w = 0; w < WORDS; w++)
-        store_word(page, w, fill(load_word(page, w)));
+    for (w = 0; w < WORDS; w++) {
+        uint64_t word = load_word(page, w);
+        uint64_t filled = fill(word);
+
+        store_word(page, w, filled);
+        pulses += count_pulses(word, filled);
+    }
     page[0] = FILLED;
-    return 0;
+    return pulses;
 }
 
 /* Whether the fill could set no further cell. */

@@ -28,6 +28,7 @@
 #include "wom.h"
 
 #define PIECE_BYTES 100
+#define STATE_PULSES 1 /* of the fill, for the state: 0x01 becomes 0x03 */
 
 /* ---- The counters ------------------------------------------------------ */
 
@@ -120,6 +121,7 @@ static void set(uint8_t *page, int word, int cell)
 static struct {
     uint8_t cells[WOM_PAGE_BYTES];
     unsigned programs; /* program operations so far */
+    unsigned pulses;   /* of the last one: one for each cell that it set */
 } part;
 
 /* Sets the cells that are set in the page given. Fails, and sets none, when a
@@ -134,6 +136,7 @@ static int program(const uint8_t *page)
                 to_clear);
         return 0;
     }
+    part.pulses = set_beyond(page, part.cells);
     for (i = 0; i < WOM_PAGE_BYTES; i++)
         part.cells[i] |= page[i];
     part.programs++;
@@ -186,8 +189,7 @@ static int write_first_record(void)
     printf("1  The first record, %d counters of %d lifts, %d bytes, is written "
            "on the blank page.\n"
            "   wom_write_first accepts; one program operation sets %u cells.\n",
-           WOM_WORDS, LIFTS, WOM_FIRST_BYTES,
-           set_beyond(first_page, blank_page));
+           WOM_WORDS, LIFTS, WOM_FIRST_BYTES, part.pulses);
     return 1;
 }
 
@@ -222,14 +224,31 @@ static int measure(uint64_t *capacity)
     return 1;
 }
 
-static int fill_ahead(uint64_t capacity)
+/* Fills the part's page. The pulses answered are all that the part then takes
+ * but one, for the state's cell. */
+static int program_fill(uint64_t *pulses)
 {
     uint64_t answer;
 
     memcpy(filled_page, part.cells, sizeof filled_page);
-    if (!accepted("wom_fill_page",
-                  wom_fill_page(filled_page, sizeof filled_page)) ||
-        !program(filled_page))
+    answer = wom_fill_page(filled_page, sizeof filled_page);
+    if (!accepted("wom_fill_page", answer) || !program(filled_page))
+        return 0;
+    *pulses = wom_result(answer);
+    if (*pulses + STATE_PULSES != part.pulses) {
+        fprintf(stderr, "logger: wom_fill_page: %" PRIu64 " pulses and %d for "
+                        "the state, where the part set %u cells\n",
+                *pulses, STATE_PULSES, part.pulses);
+        return 0;
+    }
+    return 1;
+}
+
+static int fill_ahead(uint64_t capacity, uint64_t *pulses)
+{
+    uint64_t answer;
+
+    if (!program_fill(pulses))
         return 0;
     answer = wom_page_capacity(part.cells, sizeof part.cells);
     if (!accepted("wom_page_capacity", answer))
@@ -241,8 +260,10 @@ static int fill_ahead(uint64_t capacity)
     printf("4  In a quiet hour the page is filled, ahead of time.\n"
            "   wom_fill_page accepts; one program operation sets %u further "
            "cells.\n"
+           "   Its answer: %" PRIu64 " pulses, one for each cell newly set in "
+           "the words; %d more is for the state.\n"
            "   wom_page_capacity: %" PRIu64 " bits, as before.\n",
-           set_beyond(filled_page, first_page), wom_result(answer));
+           part.pulses, *pulses, STATE_PULSES, wom_result(answer));
     return 1;
 }
 
@@ -282,8 +303,10 @@ static void clear_a_set_cell(uint8_t *page)
     page[i] &= (uint8_t)~(part.cells[i] & -part.cells[i]);
 }
 
-static int write_second_record(int planted)
+static int write_second_record(uint64_t fill_pulses, int planted)
 {
+    unsigned at_once; /* the pulses, had the page not been filled ahead */
+
     memcpy(second_page, part.cells, sizeof second_page);
     if (!accepted("wom_write_second",
                   wom_write_second(second_page, sizeof second_page, week,
@@ -293,15 +316,17 @@ static int write_second_record(int planted)
         clear_a_set_cell(second_page);
     if (!program(second_page))
         return 0;
+    at_once = set_beyond(second_page, first_page);
     printf("6  At the busy hour the second record, %d bytes, goes over the "
            "same cells, without an erase.\n"
            "   wom_write_second accepts; one program operation sets %u further "
            "cells.\n"
            "   One pulse sets one cell: %u pulses now; with the fill still to "
-           "do, it would be %u.\n",
-           WOM_SECOND_BYTES_SURE, set_beyond(second_page, filled_page),
-           set_beyond(second_page, filled_page),
-           set_beyond(second_page, first_page));
+           "do, it would be %u.\n"
+           "   Filling ahead saves %u of them: the %" PRIu64 " that "
+           "wom_fill_page answered, and %d for the state.\n",
+           WOM_SECOND_BYTES_SURE, part.pulses, part.pulses, at_once,
+           at_once - part.pulses, fill_pulses, STATE_PULSES);
     return 1;
 }
 
@@ -481,6 +506,7 @@ static int write_pages(const char *path)
 static int live(int planted)
 {
     uint64_t capacity;
+    uint64_t fill_pulses;
     uint64_t second_bytes;
 
     printf("One page of flash between two erases: %d bytes, %d cells, %u set.\n"
@@ -488,8 +514,9 @@ static int live(int planted)
            WOM_PAGE_BYTES, 8 * WOM_PAGE_BYTES,
            set_beyond(part.cells, blank_page));
     if (!write_first_record() || !fetch_first_record() || !measure(&capacity) ||
-        !fill_ahead(capacity) || !try_too_long(capacity) ||
-        !write_second_record(planted) || !read_second_record(&second_bytes))
+        !fill_ahead(capacity, &fill_pulses) || !try_too_long(capacity) ||
+        !write_second_record(fill_pulses, planted) ||
+        !read_second_record(&second_bytes))
         return 0;
     print_pages();
     print_words();

@@ -101,7 +101,7 @@ static int take_filled(struct stages *stages, uint8_t *page)
     if (!accepted(filled) || !accepted(wom_fill_page(page, WOM_PAGE_BYTES)))
         return 0;
     stages->filled = word_0(page);
-    return wom_result(filled) == stages->filled;
+    return wom_filled_word(filled) == stages->filled;
 }
 
 static int take_second(struct stages *stages, uint8_t *page)

@@ -29,11 +29,10 @@
  * Capacity. The capacity of a word is the number of its data cells after the
  * fill.
  *
- * Pulses. One pulse sets one cell. The pulses of a fill are the cells that it
- * newly sets, which is the number of set cells after it minus the number of set
- * cells before it: 0 to 23 for a word. Those of a page's fill are the sum over
- * its 44 words, 0 to 1012; the cell that the state newly sets is not among
- * them.
+ * Pulses. One pulse sets one cell. The pulses of a fill are the number of cells
+ * that it newly sets: set cells after it minus set cells before it. A word's
+ * are 0 to 23. A page's are the sum over its 44 words, 0 to 1012; the one cell
+ * that the state newly sets is not among them.
  *
  * Page. A page is 256 bytes:
  *
@@ -289,10 +288,10 @@ uint64_t wom_decode_word(uint64_t word);
 /*! wom_fill_word() :
  *  Fills a word of the first round, and counts the cells that this newly sets.
  *    word : the word, not filled; any 64-bit value may be passed.
- * @return : the filled word plus 2^48 times the pulses. wom_filled_word() gives
- *           the filled word: every set cell of 'word', and the cells set by the
- *           fill. wom_filled_pulses() gives the pulses, the number of the
- *           latter, 0 to 23;
+ * @return : the filled word plus 2^48 times the pulses, to be taken apart by
+ *           wom_filled_word(): every set cell of 'word', and the cells set by
+ *           the fill; and by wom_filled_pulses(): the number of cells set by
+ *           the fill, 0 to 23;
  *           or a refusal with index 0, the first of these that applies:
  *             10 (WOM_REFUSED_HIGH_BIT)   if a bit above cell 0 is set,
  *             11 (WOM_REFUSED_NEIGHBOURS) if two neighbouring cells are set,
@@ -300,7 +299,8 @@ uint64_t wom_decode_word(uint64_t word);
  *                                         4294967295.
  *  Note : a filled word need not be legal. The word of value 0 is filled to
  *         every even cell, which each function that takes a word refuses
- *         with 12. */
+ *         with 12. wom_result() gives word and pulses in one number; before
+ *         version 3.0.0 it was the word alone. */
 WOM_MUST_USE
 uint64_t wom_fill_word(uint64_t word);
 

@@ -1,10 +1,10 @@
 /*
  * The annex's bounds, as the library answers them: the capacity of the page of
- * 44 times the value 3889371024 and of the page of 176 zero bytes, and the
- * length of the longest record that each accepts once it is filled. Prints
- * these four numbers:
+ * 44 times the value 3889371024 and of the page of 176 zero bytes, the length
+ * of the longest record that each accepts once it is filled, and the pulses of
+ * its fill. Prints these six numbers:
  *
- *     least greatest sure longest
+ *     least greatest sure longest fewest most
  *
  * Exit status 1 when a first writing, a fill or a measurement is refused, or a
  * filled page has another capacity than the page had before.
@@ -39,13 +39,14 @@ static void make_page(uint8_t *page, uint32_t value)
     accepted(wom_write_first(page, WOM_PAGE_BYTES, data, sizeof data));
 }
 
-/* Fills the page, and gives its capacity, which is that of before. */
-static uint64_t fill(uint8_t *page)
+/* Fills the page, and gives the pulses and its capacity, which is that of
+ * before. */
+static uint64_t fill(uint8_t *page, uint64_t *pulses)
 {
     uint64_t before = accepted(wom_page_capacity(page, WOM_PAGE_BYTES));
     uint64_t capacity;
 
-    accepted(wom_fill_page(page, WOM_PAGE_BYTES));
+    *pulses = accepted(wom_fill_page(page, WOM_PAGE_BYTES));
     capacity = accepted(wom_page_capacity(page, WOM_PAGE_BYTES));
     if (capacity != before) {
         fprintf(stderr, "bounds: the fill changed the capacity\n");
@@ -78,12 +79,14 @@ int main(void)
     uint8_t least[WOM_PAGE_BYTES];
     uint8_t greatest[WOM_PAGE_BYTES];
     uint64_t least_bits, greatest_bits;
+    uint64_t fewest, most; /* pulses */
 
     make_page(least, 3889371024u);
     make_page(greatest, 0);
-    least_bits = fill(least);
-    greatest_bits = fill(greatest);
-    printf("%" PRIu64 " %" PRIu64 " %zu %zu\n", least_bits, greatest_bits,
-           longest(least), longest(greatest));
+    least_bits = fill(least, &fewest);
+    greatest_bits = fill(greatest, &most);
+    printf("%" PRIu64 " %" PRIu64 " %zu %zu %" PRIu64 " %" PRIu64 "\n",
+           least_bits, greatest_bits, longest(least), longest(greatest), fewest,
+           most);
     return 0;
 }

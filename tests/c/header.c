@@ -1,8 +1,9 @@
 /*
  * Test of wom.h: its constants and functions, and ten of its eleven entries,
  * each on document 01's values and on calls that it refuses by each of its
- * numbers. Every expectation is a literal. The eleventh entry, wom_write_file,
- * is tested by file.c.
+ * numbers. Every expectation is a literal. The pulses of a page's fill are
+ * compared with the cells, counted before and after it, as well. The eleventh
+ * entry, wom_write_file, is tested by file.c.
  *
  *     header               all checks; exit status 0 when none is wrong, else 1
  *     header plant KIND    the same with one wrong expectation of that kind, so
@@ -19,6 +20,7 @@
  *        refusal        a refusal by a page entry
  *        page-kept      the page of a refused call
  *        other-kept     the data, record or output of a refused call
+ *        pulses         the pulses of a page's fill, answered and counted
  */
 #include <string.h>
 
@@ -27,8 +29,9 @@
 
 #define COUNT(table) (sizeof(table) / sizeof(table)[0])
 
-/* An answer, put together. */
+/* An answer, put together: a refusal, and that of a word's fill. */
 #define REFUSED(number, index) ((uint64_t)(number) << 56 | (index))
+#define FILLED(word, pulses) ((uint64_t)(pulses) << 48 | (word))
 
 /* ---- The header's constants and functions ------------------------------ */
 
@@ -68,7 +71,7 @@ static const struct {
     CONSTANT(WOM_FILE_BYTES(1), 271),
     CONSTANT(WOM_FILE_BYTES(1 + 1), 530),
     CONSTANT(sizeof(uint8_t[WOM_FILE_BYTES(WOM_FILE_PAGES_MAX)]), 16588),
-    CONSTANT(WOM_VERSION, 20000),
+    CONSTANT(WOM_VERSION, 30000),
 };
 
 static void check_constants(void)
@@ -118,7 +121,7 @@ static void check_texts(void)
         check_text(wom_refusal_name(texts[i].number), texts[i].expected);
     }
     in_case("WOM_VERSION_STRING", WOM_VERSION);
-    check_text(WOM_VERSION_STRING, "2.0.0");
+    check_text(WOM_VERSION_STRING, "3.0.0");
 }
 
 static const struct {
@@ -150,6 +153,41 @@ static void check_parts(void)
     }
 }
 
+/* Answers as of a word's fill. A refusal's number is in neither part. */
+static const struct {
+    uint64_t answer;
+    uint64_t word;
+    unsigned pulses;
+} filled_answers[] = {
+    {0, 0, 0},
+    {UINT64_C(0x0000000000000001), 1, 0},
+    {UINT64_C(0x00003fffffffffff), UINT64_C(0x3fffffffffff), 0},
+    {UINT64_C(0x0000ffffffffffff), UINT64_C(0xffffffffffff), 0},
+    {UINT64_C(0x0001000000000000), 0, 1},
+    {UINT64_C(0x0017000000000000), 0, 23},
+    {UINT64_C(0x0080000000000000), 0, 128},
+    {UINT64_C(0x00ff000000000000), 0, 255},
+    {UINT64_C(0x00172aaaaaaaaaaa), UINT64_C(0x2aaaaaaaaaaa), 23},
+    {UINT64_C(0x0100000000000000), 0, 0},
+    {UINT64_C(0x0c00000000000000), 0, 0},
+    {UINT64_C(0xff00000000000000), 0, 0},
+    {UINT64_MAX, UINT64_C(0xffffffffffff), 255},
+};
+
+static void check_filled_parts(void)
+{
+    size_t i;
+
+    for (i = 0; i < COUNT(filled_answers); i++) {
+        uint64_t answer = filled_answers[i].answer;
+
+        in_case("answer of a fill", answer);
+        check_number("parts", wom_filled_word(answer), filled_answers[i].word);
+        check_number("parts", wom_filled_pulses(answer),
+                     filled_answers[i].pulses);
+    }
+}
+
 /* ---- Words ------------------------------------------------------------- */
 
 #define END (-1)
@@ -161,27 +199,30 @@ static void check_parts(void)
                   33, 35, 37, 39, 41, 43, 45
 #define EVERY_THIRD 0, 3, 6, 9, 12, 15, 18, 21, 24, 27, 30, 33, 36, 39, 42, 45
 
-/* A value, the set cells of its word and of its filled word, its capacity */
+/* A value, the set cells of its word and of its filled word, the pulses of the
+ * fill, its capacity */
 static const struct value {
     uint32_t value;
     int cells[24];
     int filled[24];
+    unsigned pulses;
     unsigned capacity;
 } values[] = {
-    {0, {END}, {EVEN_TO_40, 42, 44, END}, 23},
-    {1, {45, END}, {EVEN_TO_40, 42, 45, END}, 22},
-    {2, {44, END}, {EVEN_TO_40, 42, 44, END}, 23},
-    {3, {43, END}, {EVEN_TO_40, 43, 45, END}, 22},
-    {77, {37, 39, 45, END}, {EVEN_TO_34, 37, 39, 41, 43, 45, END}, 22},
-    {243, {34, 41, 44, END}, {EVEN_TO_34, 36, 38, 41, 44, END}, 22},
-    {2971215072u, {EVERY_ODD, END}, {EVERY_ODD, END}, 22},
-    {2971215073u, {0, END}, {EVEN_TO_40, 42, 44, END}, 23},
-    {2971215074u, {0, 45, END}, {EVEN_TO_40, 42, 45, END}, 22},
-    {3889371024u, {EVERY_THIRD, END}, {EVERY_THIRD, END}, 15},
+    {0, {END}, {EVEN_TO_40, 42, 44, END}, 23, 23},
+    {1, {45, END}, {EVEN_TO_40, 42, 45, END}, 22, 22},
+    {2, {44, END}, {EVEN_TO_40, 42, 44, END}, 22, 23},
+    {3, {43, END}, {EVEN_TO_40, 43, 45, END}, 22, 22},
+    {77, {37, 39, 45, END}, {EVEN_TO_34, 37, 39, 41, 43, 45, END}, 20, 22},
+    {243, {34, 41, 44, END}, {EVEN_TO_34, 36, 38, 41, 44, END}, 19, 22},
+    {2971215072u, {EVERY_ODD, END}, {EVERY_ODD, END}, 0, 22},
+    {2971215073u, {0, END}, {EVEN_TO_40, 42, 44, END}, 22, 23},
+    {2971215074u, {0, 45, END}, {EVEN_TO_40, 42, 45, END}, 21, 22},
+    {3889371024u, {EVERY_THIRD, END}, {EVERY_THIRD, END}, 0, 15},
     {4294967295u,
      {0, 2, 6, 11, 13, 15, 19, 21, 25, 33, 37, 40, 43, END},
      {0, 2, 4, 6, 8, 11, 13, 15, 17, 19, 21, 23, 25, 27, 29, 31, 33, 35, 37, 40,
       43, 45, END},
+     9,
      21},
 };
 
@@ -206,11 +247,37 @@ static void check_values(void)
         in_case("value", row->value);
         check_number("word", wom_encode_word(row->value), word);
         check_number("word", wom_decode_word(word), row->value);
-        check_number("word", wom_fill_word(word), word_of(row->filled));
+        check_number("word", wom_fill_word(word),
+                     FILLED(word_of(row->filled), row->pulses));
         check_number("word", wom_word_capacity(word), row->capacity);
     }
 }
 
+/* A word and the answer of its fill, each as a whole number */
+static const struct {
+    uint64_t word;
+    uint64_t answer;
+} fills[] = {
+    {UINT64_C(0x000000000000), UINT64_C(0x00172aaaaaaaaaaa)}, /* of 0 */
+    {UINT64_C(0x000000000001), UINT64_C(0x00162aaaaaaaaaa9)}, /* of 1 */
+    {UINT64_C(0x000000000002), UINT64_C(0x00162aaaaaaaaaaa)}, /* of 2 */
+    {UINT64_C(0x000000000004), UINT64_C(0x00162aaaaaaaaaa5)}, /* of 3 */
+    {UINT64_C(0x000000000141), UINT64_C(0x00142aaaaaaaa955)}, /* of 77 */
+    {UINT64_C(0x000000000812), UINT64_C(0x00132aaaaaaaaa92)}, /* of 243 */
+    {UINT64_C(0x249249249249), UINT64_C(0x0000249249249249)}, /* 3889371024 */
+};
+
+static void check_fills(void)
+{
+    size_t i;
+
+    for (i = 0; i < COUNT(fills); i++) {
+        in_case("fill of the word", fills[i].word);
+        check_number("word", wom_fill_word(fills[i].word), fills[i].answer);
+    }
+}
+
+/* The refusal is the whole answer: a refused fill has no pulses. */
 static const struct {
     uint64_t word;
     unsigned number;
@@ -423,9 +490,9 @@ static const struct accepted {
     {PAGE_CAPACITY, &least_filled, nines, 0, 660, &least_filled, zeros, 0},
     {PAGE_CAPACITY, &mixed_filled, nines, 0, 891, &mixed_filled, zeros, 0},
 
-    {FILL_PAGE, &zeros_first, nines, 0, 0, &zeros_filled, zeros, 0},
+    {FILL_PAGE, &zeros_first, nines, 0, 1012, &zeros_filled, zeros, 0},
     {FILL_PAGE, &least_first, nines, 0, 0, &least_filled, zeros, 0},
-    {FILL_PAGE, &mixed_first, nines, 0, 0, &mixed_filled, zeros, 0},
+    {FILL_PAGE, &mixed_first, nines, 0, 671, &mixed_filled, zeros, 0},
 
     {WRITE_SECOND, &zeros_filled, zeros, 0, 0, &zeros_none, zeros, 0},
     {WRITE_SECOND, &zeros_filled, zeros, 1, 0, &zeros_zero, zeros, 0},
@@ -541,6 +608,7 @@ static const struct refused {
     {FILL_PAGE, &zeros_first, 256, 3, 0xc0, 0, 7, 0}, /* cells 0 and 1 */
     {FILL_PAGE, &zeros_first, 256, 8, 0x03, 0, 7, 1}, /* cells 0 and 1 */
     {FILL_PAGE, &zeros_first, 256, 255, 0x03, 0, 7, 43}, /* 44 and 45 */
+    {FILL_PAGE, &mixed_first, 256, 255, 0x4b, 0, 7, 43}, /* 44 and 45 */
     {FILL_PAGE, &zeros_filled, 256, 0, 0x01, 0, 7, 0}, /* every even cell */
 
     {WRITE_SECOND, &zeros_filled, 0, 0, 0x03, 1, 1, 0},
@@ -610,6 +678,79 @@ static void check_refused(void)
     }
 }
 
+/* ---- Pulses of a page's fill ------------------------------------------- */
+
+/* The value of one word and that of the 43 others, and the pulses of the page's
+ * fill, whichever word the one is. */
+static const struct page_fill {
+    uint32_t one;
+    uint32_t others;
+    uint64_t pulses;
+} page_fills[] = {
+    {0, 0, 1012},
+    {77, 0, 1009},
+    {3889371024u, 0, 989},
+    {3889371024u, 3889371024u, 0},
+    {0, 3889371024u, 23},
+    {243, 3889371024u, 19},
+    {1, 4294967295u, 409},
+};
+
+static void lay_values(uint8_t data[176], const struct page_fill *row, int word)
+{
+    int i;
+
+    for (i = 0; i < 176; i++) {
+        uint32_t value = i / 4 == word ? row->one : row->others;
+
+        data[i] = (uint8_t)(value >> (24 - 8 * (i % 4)));
+    }
+}
+
+static uint64_t set_cells(const uint8_t *bytes, size_t length)
+{
+    uint64_t count = 0;
+    size_t i;
+
+    for (i = 0; i < 8 * length; i++)
+        count += bytes[i / 8] >> i % 8 & 1;
+    return count;
+}
+
+/* The state's one cell is in byte 0, and not among the pulses. */
+static void check_pulses(const uint8_t data[176], uint64_t pulses)
+{
+    uint8_t before[256] = {0}, after[256];
+
+    check_number("answer", wom_write_first(before, 256, data, 176), 0);
+    memcpy(after, before, 256);
+    check_number("pulses", wom_fill_page(after, 256), pulses);
+    check_number("pulses", set_cells(after + 3, 253),
+                 set_cells(before + 3, 253) + pulses);
+    check_number("pulses", set_cells(after, 256),
+                 set_cells(before, 256) + pulses + 1);
+}
+
+static void check_each_word(const struct page_fill *row)
+{
+    uint8_t data[176];
+    int word;
+
+    for (word = 0; word < 44; word++) {
+        lay_values(data, row, word);
+        in_case("wom_fill_page, one word", (uint64_t)word);
+        check_pulses(data, row->pulses);
+    }
+}
+
+static void check_page_fills(void)
+{
+    size_t i;
+
+    for (i = 0; i < COUNT(page_fills); i++)
+        check_each_word(&page_fills[i]);
+}
+
 /* ------------------------------------------------------------------------ */
 
 int main(int argc, char **argv)
@@ -618,9 +759,12 @@ int main(int argc, char **argv)
     check_constants();
     check_texts();
     check_parts();
+    check_filled_parts();
     check_values();
+    check_fills();
     check_refused_words();
     check_accepted();
     check_refused();
+    check_page_fills();
     return finish("header");
 }

@@ -137,7 +137,7 @@ first-refused-as-read : (P out : List ℕ) (n : ℕ) → Sized P → state P ≡
 unfolding readFirstChecks
 first-refused-as-read P out n z s l =
     let cs = firstChecks page256 P in
-    let fits = last-passed cs (ltb (length out) 176) 3 0 0 (le-ltb (length out) 176 l) in
+    let fits = last-passed {A = ℕ} cs (ltb (length out) 176) 3 0 0 (le-ltb (length out) 176 l) in
     let r = first-refused P n z s in
     let f = as-first page256 P (λ e. absurd (omega (arith, s, e))) in (
       λ e. let h = r .0 e in (h .0, fits ∙ same-refusal cs _ 0 n (h .0) (sym f ∙ h .1)),

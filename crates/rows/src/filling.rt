@@ -26,10 +26,10 @@ pub fn fill_words(page: &mut [u8], n: usize) -> u32
 {
     let mut total: u32 = 0;
     for i in 0..n {
-        let word = load_word(page, i);
-        let filled = fill_word(word);
-        store_word(page, i, filled);
-        total += pulses_of(word, filled) as u32;
+        let before = load_word(page, i);
+        let after = fill_word(before);
+        store_word(page, i, after);
+        total += pulses_of(before, after);
     }
     total
 }

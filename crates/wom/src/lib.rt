@@ -91,7 +91,7 @@ fn pack_filled(f: Filled) -> u64
     ensures { λ r. ⌜ r ≡ packed (joined 48 (filledCode f)) ⌝ }
 {
     match f {
-        Filled::Word(w, p) => w + (p << 48),
+        Filled::Word(w, p) => w + ((p as u64) << 48),
         Filled::HighBit => HIGH_BIT,
         Filled::Neighbours => NEIGHBOURS,
         Filled::SumTooLarge => SUM_TOO_LARGE,

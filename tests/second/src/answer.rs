@@ -53,6 +53,19 @@ pub fn packed(answer: Answer) -> u64 {
     u64::from(number(answer)) << 56 | value(answer)
 }
 
+/// What the pulses of a word's fill are multiplied by.
+const PULSES_UNIT: u64 = 1 << 48;
+
+/// The result of a word's fill: "the filled word plus 2^48 times the pulses".
+pub fn fill_result(filled: u64, pulses: usize) -> u64 {
+    filled + PULSES_UNIT * pulses as u64
+}
+
+/// The pulses in the result of a word's fill.
+pub fn pulses_in(fill_result: u64) -> usize {
+    (fill_result / PULSES_UNIT) as usize
+}
+
 /// `Ok` when the condition of the refusal does not hold.
 pub fn refuse_if(condition: bool, refusal: Refusal) -> Result<(), Refusal> {
     if condition {

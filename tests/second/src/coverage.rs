@@ -1,14 +1,19 @@
 //! Counters of the calls that a run has made, and of their answers.
 
-use crate::answer::{number, value, Answer};
+use crate::answer::{number, pulses_in, value, Answer};
 use crate::call::{Call, Entry};
 use crate::case::Place;
 use crate::memory::Side;
 use crate::page::{words_of, FILLED, FIRST_ROUND, WORDS};
-use crate::word;
+use crate::word::{self, PULSES_MOST};
+use std::ops::RangeInclusive;
 
 /// The capacities that refusal 8 must have named: the least and the most of a page.
 const ENDS: [u64; 2] = [660, 1_012];
+
+/// The pulses of a page of which fill page must have answered some: the least, the most, and between them each stretch
+/// of 256, which a sum in 8 bits would not tell from another.
+const PAGE_PULSES: [RangeInclusive<u64>; 6] = [0..=0, 1..=255, 256..=511, 512..=767, 768..=1_011, 1_012..=1_012];
 
 /// What is wrong with a word that 7 names.
 #[derive(Clone, Copy, PartialEq, Eq)]
@@ -70,6 +75,10 @@ pub struct Coverage {
     words: [[u64; WORDS]; FLAWS.len()],
     /// For each of `ENDS`: how often 8 named it.
     ends: [u64; 2],
+    /// For each number of pulses, 0 to 23: how often fill word answered it.
+    word_pulses: [u64; PULSES_MOST + 1],
+    /// For each of `PAGE_PULSES`: how often fill page answered one of them.
+    page_pulses: [u64; PAGE_PULSES.len()],
 }
 
 impl Coverage {
@@ -79,6 +88,8 @@ impl Coverage {
             measured: [[[0; NUMBERS]; 2]; 6],
             words: [[0; WORDS]; FLAWS.len()],
             ends: [0; 2],
+            word_pulses: [0; PULSES_MOST + 1],
+            page_pulses: [0; PAGE_PULSES.len()],
         }
     }
 
@@ -89,7 +100,7 @@ impl Coverage {
             self.count_measured(call, place, answer);
         }
         if place == Place::Canaries {
-            self.count_index(call, answer);
+            self.count_value(call, answer);
         }
     }
 
@@ -99,8 +110,10 @@ impl Coverage {
         }
     }
 
-    fn count_index(&mut self, call: &Call, answer: Answer) {
+    /// Counts the result, or the refusal's index.
+    fn count_value(&mut self, call: &Call, answer: Answer) {
         match number(answer) {
+            0 => self.count_pulses(call.entry, value(answer)),
             7 => self.count_word(call, value(answer) as usize),
             8 => (0..2).filter(|&end| ENDS[end] == value(answer)).for_each(|end| self.ends[end] += 1),
             _ => {}
@@ -110,6 +123,17 @@ impl Coverage {
     fn count_word(&mut self, call: &Call, index: usize) {
         let flaw = (call.entry, Flaw::of(&call.page, index));
         (0..FLAWS.len()).filter(|&place| FLAWS[place] == flaw).for_each(|place| self.words[place][index] += 1);
+    }
+
+    fn count_pulses(&mut self, entry: Entry, result: u64) {
+        match entry {
+            Entry::FillWord => self.word_pulses[pulses_in(result)] += 1,
+            Entry::FillPage => {
+                let among = |&place: &usize| PAGE_PULSES[place].contains(&result);
+                (0..PAGE_PULSES.len()).filter(among).for_each(|place| self.page_pulses[place] += 1);
+            }
+            _ => {}
+        }
     }
 
     /// How often the entry, with its buffers in this place, gave this number.
@@ -130,7 +154,7 @@ impl Coverage {
         let measured = (0..2).flat_map(|state| self.wanted_measured(state));
         let buffers = Entry::ALL.into_iter().filter(|entry| entry.takes_buffers());
         let places = buffers.flat_map(|entry| self.wanted_places(entry));
-        answers.chain(words).chain(measured).chain(places).chain(ends).collect()
+        answers.chain(words).chain(measured).chain(places).chain(ends).chain(self.wanted_pulses()).collect()
     }
 
     fn wanted_of(&self, entry: Entry) -> Vec<(String, u64)> {
@@ -155,6 +179,16 @@ impl Coverage {
         let wanted = [0, 1, 6, 7].map(|number| (Place::Canaries, number));
         let wanted = wanted.into_iter().chain(accepted).chain(refused.into_iter().flatten());
         wanted.map(|(place, number)| self.wanted_in_state(state, place, number)).collect()
+    }
+
+    /// Every number of pulses of a word, and each of `PAGE_PULSES`.
+    fn wanted_pulses(&self) -> Vec<(String, u64)> {
+        let words =
+            self.word_pulses.iter().enumerate().map(|(pulses, &met)| (format!("fill word {pulses} pulses"), met));
+        let pages = PAGE_PULSES.iter().zip(self.page_pulses);
+        let pages =
+            pages.map(|(pulses, met)| (format!("fill page {} to {} pulses", pulses.start(), pulses.end()), met));
+        words.chain(pages).collect()
     }
 
     fn wanted_in_state(&self, state: usize, place: Place, number: u8) -> (String, u64) {
@@ -191,13 +225,25 @@ impl Coverage {
         if entry.refusals().contains(&7) {
             line += &format!("  7 at {} words", self.words_named(entry));
         }
-        if entry == Entry::PageCapacity {
-            line += &format!("  filled accepted: {}", self.measured[Place::Canaries.number()][1][0]);
+        line + &self.results_of(entry) + "\n"
+    }
+
+    /// What is told of the entry's results and indices.
+    fn results_of(&self, entry: Entry) -> String {
+        match entry {
+            Entry::FillWord => {
+                let met = self.word_pulses.iter().filter(|&&met| met > 0).count();
+                let [least, .., most] = self.word_pulses;
+                format!("  {met} numbers of pulses  0 pulses: {least}  23 pulses: {most}")
+            }
+            Entry::FillPage => {
+                let [least, .., most] = self.page_pulses;
+                format!("  0 pulses: {least}  1012 pulses: {most}")
+            }
+            Entry::PageCapacity => format!("  filled accepted: {}", self.measured[Place::Canaries.number()][1][0]),
+            Entry::WriteSecond => format!("  8 with 660: {}  8 with 1012: {}", self.ends[0], self.ends[1]),
+            _ => String::new(),
         }
-        if entry == Entry::WriteSecond {
-            line += &format!("  8 with 660: {}  8 with 1012: {}", self.ends[0], self.ends[1]);
-        }
-        line + "\n"
     }
 
     /// The number of words that 7 of the entry named for each of its flaws.
@@ -255,7 +301,9 @@ fn far_numbers(entry: Entry) -> &'static [u8] {
 mod tests {
     use super::*;
     use crate::answer::Refusal;
-    use crate::cases::pages::{filled_page, first_page, with_byte, with_data_cell, with_word};
+    use crate::cases::pages::{filled_page, first_page, values_with_pulses, with_byte, with_data_cell, with_word};
+    use crate::cases::words::value_with_pulses;
+    use crate::word::{legal_word, number_of};
 
     /// How many counters are still 0.
     fn missing(coverage: &Coverage) -> usize {
@@ -292,11 +340,15 @@ mod tests {
         );
     }
 
-    /// The counters that a call between canary bytes turns from 0, by name.
+    /// The counters that a call over this page turns from 0, by name.
     fn met_by(entry: Entry, page: Vec<u8>) -> Vec<String> {
-        let call = Call::of_page(entry, page, vec![0; 127]);
+        met_by_call(&Call::of_page(entry, page, vec![0; 127]))
+    }
+
+    /// The counters that a call between canary bytes turns from 0, by name.
+    fn met_by_call(call: &Call) -> Vec<String> {
         let mut coverage = Coverage::new();
-        coverage.count(&call, Place::Canaries, call.clone().perform());
+        coverage.count(call, Place::Canaries, call.clone().perform());
         coverage.wanted().into_iter().filter(|(_, met)| *met > 0).map(|(name, _)| name).collect()
     }
 
@@ -329,6 +381,25 @@ mod tests {
         for entry in Entry::ALL {
             let has_flaw = FLAWS.iter().any(|(of, _)| *of == entry);
             assert_eq!(has_flaw, entry.refusals().contains(&7), "{}", entry.name());
+        }
+    }
+
+    #[test]
+    fn the_pulses_of_a_word_count() {
+        for pulses in 0..=23 {
+            let word = number_of(&legal_word(value_with_pulses(pulses)));
+            let met = met_by_call(&Call::of_word(Entry::FillWord, word));
+            assert_eq!(met, ["fill word accepted".to_string(), format!("fill word {pulses} pulses")]);
+        }
+    }
+
+    #[test]
+    fn the_pulses_of_a_page_count() {
+        for (first, last) in [(0, 0), (1, 255), (256, 511), (512, 767), (768, 1_011), (1_012, 1_012)] {
+            for pulses in [first, last] {
+                let met = met_by(Entry::FillPage, first_page(&values_with_pulses(pulses)));
+                assert_eq!(met, ["fill page accepted".to_string(), format!("fill page {first} to {last} pulses")]);
+            }
         }
     }
 

@@ -1,9 +1,9 @@
 //! A second implementation of the page code, for tests only.
 //!
-//! It was written from document 01 (the exact rules), Changes 1 and 2 of document 02 (the transfer file, filling ahead
-//! of time) and `wom.h` alone, without sight of the first implementation. Cells are kept one by one in plain arrays:
-//! clarity counts here, not speed. On it rest the vectors, pages and files of `generate`, and the comparison of
-//! `differential` with the archive `libwom.a`.
+//! It was written from document 01 (the exact rules), Changes 1 to 3 of document 02 (the transfer file, filling ahead of
+//! time, the pulses of a fill) and `wom.h` alone, without sight of the first implementation. Cells are kept one by one in
+//! plain arrays: clarity counts here, not speed. On it rest the vectors, pages and files of `generate`, and the
+//! comparison of `differential` with the archive `libwom.a`.
 
 pub mod answer;
 pub mod call;

@@ -11,6 +11,8 @@ pub const FIRST_BYTES: usize = 176;
 pub const SECOND_BYTES_MOST: usize = 126;
 /// "44 words of 46 cells with nothing between".
 pub const WORDS: usize = 44;
+/// The most pulses of a fill: those of the page of 176 zero bytes.
+pub const PULSES_MOST: usize = WORDS * word::PULSES_MOST;
 
 pub const BLANK: u8 = 0x00;
 pub const FIRST_ROUND: u8 = 0x01;
@@ -49,6 +51,11 @@ pub fn put_words(page: &mut [u8], words: &Words) {
 /// "A page's capacity is the sum over its words."
 fn capacity_of(words: &Words) -> usize {
     words.iter().map(word::capacity).sum()
+}
+
+/// "Filling a page returns the sum over its words."
+fn pulses_of(words: &Words) -> usize {
+    words.iter().map(word::pulses).sum()
 }
 
 /// The data cells that reading back finds on a filled or second-round page, as word and cell: "word 0 first, lower cells
@@ -133,12 +140,13 @@ pub fn page_capacity(page: &[u8]) -> Answer {
     Ok(capacity as u64)
 }
 
-/// "Filling turns a first-round page into state 03 (hexadecimal) with bytes 1 and 2 at 0."
+/// "Filling turns a first-round page into state 03 (hexadecimal) with bytes 1 and 2 at 0." Of the pulses, "the one in the
+/// state byte is not in it".
 pub fn fill_page(page: &mut [u8]) -> Answer {
     let words = first_round_words(page)?;
     put_words(page, &words.map(|legal| word::filled(&legal)));
     page[0] = FILLED;
-    Ok(0)
+    Ok(pulses_of(&words) as u64)
 }
 
 /// "8 times the record's length in bytes is at most the page's capacity".
@@ -183,7 +191,7 @@ pub fn read_second(page: &[u8], output: &mut [u8]) -> Answer {
 #[cfg(test)]
 mod tests {
     use super::*;
-    use crate::cases::pages::{any_first, any_record};
+    use crate::cases::pages::{self, any_first, any_record, values_with_pulses, with_value};
     use crate::cases::words::{unwritten, SPARSE_VALUE};
     use crate::random::Random;
 
@@ -198,10 +206,18 @@ mod tests {
         assert!(before.iter().zip(after).all(|(before, after)| before & !after == 0));
     }
 
-    /// Fills a copy of the page.
+    /// How many more cells are set in the bytes after than in those before.
+    fn newly_set(before: &[u8], after: &[u8]) -> u64 {
+        let set = |bytes: &[u8]| bytes.iter().map(|byte| u64::from(byte.count_ones())).sum::<u64>();
+        set(after) - set(before)
+    }
+
+    /// Fills a copy of the page. The pulses are the newly set cells of bytes 3 to 255; the whole page has one more.
     fn filled_page(first: &[u8]) -> Vec<u8> {
         let mut page = first.to_vec();
-        assert_eq!(fill_page(&mut page), Ok(0));
+        let pulses = fill_page(&mut page);
+        assert_eq!(pulses, Ok(newly_set(&first[3..], &page[3..])));
+        assert_eq!(pulses, Ok(newly_set(first, &page) - 1));
         assert_eq!(page[..3], [0x03, 0, 0]);
         check_cells(first, &page);
         page
@@ -256,6 +272,41 @@ mod tests {
     #[test]
     fn page_of_44_times_3889371024() {
         check_capacity(&first_page(3_889_371_024), 660, 82);
+    }
+
+    /// The pulses of the fill of a page of these values.
+    fn check_pulses(values: [u32; WORDS], pulses: usize) {
+        let first = pages::first_page(&values);
+        filled_page(&first);
+        assert_eq!(fill_page(&mut first.clone()), Ok(pulses as u64));
+    }
+
+    /// Each marked value on all words: 44 times the pulses of the word.
+    #[test]
+    fn pulses_of_pages_of_one_value() {
+        let marked = [(0, 23), (1, 22), (2, 22), (3, 22), (77, 20), (243, 19), (3_889_371_024, 0)];
+        for (value, pulses) in marked {
+            check_pulses([value; WORDS], 44 * pulses);
+        }
+        assert_eq!(PULSES_MOST, 1_012);
+    }
+
+    /// Every word counts, the first and the last included, and counts once.
+    #[test]
+    fn pulses_of_one_word_and_of_all_but_one() {
+        for index in 0..WORDS {
+            check_pulses(with_value([SPARSE_VALUE; WORDS], index, 0), 23);
+            check_pulses(with_value([0; WORDS], index, SPARSE_VALUE), 989);
+        }
+        // 44 words by turns: 15 of no pulse, 15 of 22 and 14 of 20.
+        check_pulses(std::array::from_fn(|index| [SPARSE_VALUE, 1, 77][index % 3]), 610);
+    }
+
+    #[test]
+    fn every_sum_of_pulses() {
+        for pulses in 0..=PULSES_MOST {
+            check_pulses(values_with_pulses(pulses), pulses);
+        }
     }
 
     /// "Where the record fits, the outcome of the two is the old outcome".

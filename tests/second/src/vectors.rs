@@ -7,8 +7,8 @@ use crate::cases::files::CONTENTS;
 use crate::cases::lengths::{resized, FAR_RECORD_LENGTHS, WRONG_PAGE_LENGTHS};
 use crate::cases::pages::*;
 use crate::cases::words::{
-    any_value, sum_too_large, with_bare_hole, with_hole, with_neighbours, with_one_data_cell, Hole, EDGE_VALUE,
-    LISTED_VALUES, ODD_VALUE, SPARSE_VALUE,
+    any_value, sum_too_large, value_with_pulses, with_bare_hole, with_hole, with_neighbours, with_one_data_cell, Hole,
+    EDGE_VALUE, LISTED_VALUES, ODD_VALUE, SPARSE_VALUE,
 };
 use crate::file::file_bytes;
 use crate::page::{data_cells_of, words_of, FIRST_BYTES, PAGE_BYTES, WORDS};
@@ -59,6 +59,7 @@ pub fn calls() -> Vec<Call> {
     script.orders();
     script.words();
     script.cell_0_values();
+    script.pulses();
     script.files();
     script.pages_lengths();
     script.calls
@@ -407,6 +408,18 @@ impl Script {
         self.second_round(&first, most, most);
     }
 
+    /// Words of 1 to 18 pulses (the listed values and those about cell 0 take the other numbers), and pages on which the
+    /// first word, one in the middle or the last takes pulses alone.
+    fn pulses(&mut self) {
+        for pulses in 1..=18 {
+            self.add(Call::of_word(Entry::FillWord, number_of(&legal_word(value_with_pulses(pulses)))));
+        }
+        for (index, pulses) in [(0, 23), (21, 1), (43, 12)] {
+            let values = with_value([SPARSE_VALUE; WORDS], index, value_with_pulses(pulses));
+            self.page(Entry::FillPage, &first_page(&values), Vec::new());
+        }
+    }
+
     /// A call of write file with an output of this length, which holds any bytes; the contents go by turns.
     fn file(&mut self, device: u32, pages_length: usize, length: usize) {
         let contents = CONTENTS[self.calls.len() % CONTENTS.len()];
@@ -477,25 +490,25 @@ pub fn text_of(calls: &[Call]) -> String {
 #[cfg(test)]
 mod tests {
     use super::*;
-    use crate::answer::{Answer, Refusal};
+    use crate::answer::{pulses_in, Answer, Refusal};
     use crate::page::FILLED;
-    use crate::word::{read_back, unwritten, well_formed, Cells};
+    use crate::word::{pulses, read_back, unwritten, well_formed, Cells, PULSES_MOST};
     use std::collections::HashSet;
     use std::sync::OnceLock;
 
     #[test]
     fn size_and_variety() {
         let calls = calls();
-        assert_eq!(calls.len(), 937);
+        assert_eq!(calls.len(), 958);
         assert!(text_of(&calls).len() < 250_000);
         assert!(calls.iter().all(|call| call.page.len().max(call.other.len()) <= LENGTH_MOST));
         let pages: HashSet<_> = calls.iter().map(|call| &call.page).filter(|page| page.len() == PAGE_BYTES).collect();
-        assert_eq!(pages.len(), 441);
+        assert_eq!(pages.len(), 444);
     }
 
     #[test]
     fn the_calls_of_write_file_come_last() {
-        assert!((0..).zip(calls()).all(|(index, call)| (call.entry == Entry::WriteFile) == (index >= 911)));
+        assert!((0..).zip(calls()).all(|(index, call)| (call.entry == Entry::WriteFile) == (index >= 932)));
     }
 
     /// The pages' length, the output's, and the answer.
@@ -514,11 +527,12 @@ mod tests {
         }
     }
 
-    /// "cell 0 is worth 2971215073": that value and its neighbours, each with its word, its filled word and its capacity.
+    /// "cell 0 is worth 2971215073": that value and its neighbours, each with its word, its filled word below the pulses,
+    /// and its capacity.
     const ABOUT_CELL_0: [(u32, u64, u64, u64); 3] = [
         (2_971_215_072, 0x1555_5555_5555, 0x1555_5555_5555, 22),
-        (2_971_215_073, 0x2000_0000_0000, 0x2AAA_AAAA_AAAA, 23),
-        (2_971_215_074, 0x2000_0000_0001, 0x2AAA_AAAA_AAA9, 22),
+        (2_971_215_073, 0x2000_0000_0000, 22 << 48 | 0x2AAA_AAAA_AAAA, 23),
+        (2_971_215_074, 0x2000_0000_0001, 21 << 48 | 0x2AAA_AAAA_AAA9, 22),
     ];
 
     #[test]
@@ -548,7 +562,8 @@ mod tests {
         let answers: Vec<_> = after.iter_mut().map(Call::perform).collect();
         let entries: Vec<_> = before.iter().map(|call| call.entry.number()).collect();
         assert_eq!(entries, [4, 5, 6, 10, 6, 7, 8]);
-        assert_eq!(answers, [Ok(0), Ok(0), Ok(983), Ok(0), Ok(983), Ok(0), Ok(122)]);
+        // The fill: 15 words of no pulse, 15 of 22 and 14 of 21.
+        assert_eq!(answers, [Ok(0), Ok(0), Ok(983), Ok(624), Ok(983), Ok(0), Ok(122)]);
         // Each call takes the page that the call before it leaves, and both records are read back.
         assert!((1..7).all(|turn| before[turn].page == after[turn - 1].page));
         assert_eq!((&after[1].other, &after[6].other), (&before[0].other, &before[5].other));
@@ -574,13 +589,52 @@ mod tests {
     }
 
     #[test]
+    fn every_number_of_word_pulses() {
+        let met = met(Entry::FillWord, |call| call.argument);
+        for pulses in 0..=PULSES_MOST {
+            assert!(met.iter().any(|(_, answer)| answer.map(pulses_in) == Ok(pulses)), "never {pulses} pulses");
+        }
+        for (word, result) in [(0, 23 << 48 | 0x2AAA_AAAA_AAAA), (0x2492_4924_9249, 0x2492_4924_9249)] {
+            assert!(met.contains(&(word, Ok(result))), "never {word:#x}");
+        }
+    }
+
+    /// The words of a first-round page that take pulses, with how many.
+    fn words_with_pulses(call: &Call) -> Vec<(usize, usize)> {
+        let words = if call.page.len() == PAGE_BYTES { words_of(&call.page).to_vec() } else { Vec::new() };
+        let taken = words.iter().map(pulses).enumerate();
+        taken.filter(|(_, pulses)| *pulses > 0).collect()
+    }
+
+    #[test]
+    fn both_ends_of_page_pulses() {
+        let met = met(Entry::FillPage, |call| call.page.clone());
+        for (value, pulses) in [(SPARSE_VALUE, 0), (0, 1_012)] {
+            assert!(met.contains(&(first_page(&[value; WORDS]), Ok(pulses))), "never {pulses} pulses");
+        }
+    }
+
+    /// The first word, one in the middle or the last alone takes pulses, and some words do.
+    #[test]
+    fn pages_of_which_some_words_take_pulses() {
+        let met = met(Entry::FillPage, words_with_pulses);
+        for (index, pulses) in [(0, 23), (21, 1), (43, 12)] {
+            assert!(met.contains(&(vec![(index, pulses)], Ok(pulses as u64))), "word {index} never alone");
+        }
+        let some = met.iter().filter(|(words, answer)| answer.is_ok() && (2..WORDS).contains(&words.len()));
+        let sums: HashSet<u64> = some.filter_map(|(_, answer)| answer.ok()).collect();
+        assert!(sums.len() > 5, "{sums:?}");
+    }
+
+    #[test]
     fn pages_of_another_state() {
         let (fills, writes) = (met(Entry::FillPage, state), met(Entry::WriteSecond, state));
         for other in [0x00, 0x02, 0x07] {
             assert!(fills.contains(&(Some(other), Err(Refusal::STATE))), "fill page, state {other}");
             assert!(writes.contains(&(Some(other), Err(Refusal::STATE))), "write second, state {other}");
         }
-        assert!(fills.contains(&(Some(0x03), Err(Refusal::STATE))) && fills.contains(&(Some(0x01), Ok(0))));
+        let filled = |met: &(Option<u8>, Answer)| met.0 == Some(0x01) && met.1.is_ok();
+        assert!(fills.contains(&(Some(0x03), Err(Refusal::STATE))) && fills.iter().any(filled));
         assert!(writes.contains(&(Some(0x01), Err(Refusal::STATE))) && writes.contains(&(Some(0x03), Ok(0))));
     }
 

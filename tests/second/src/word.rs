@@ -1,6 +1,6 @@
-//! Words: weights, legal words, the fill, capacity, reading back and well-formed words.
+//! Words: weights, legal words, the fill, capacity, pulses, reading back and well-formed words.
 
-use crate::answer::{refuse_if, Answer, Refusal};
+use crate::answer::{fill_result, refuse_if, Answer, Refusal};
 
 /// "A word has cells 0 to 45".
 pub const CELLS: usize = 46;
@@ -13,6 +13,9 @@ pub const LARGEST_VALUE: u64 = 4_294_967_295;
 
 /// "The 46 cells without neighbours reach 4807526975".
 pub const LARGEST_SUM: u64 = 4_807_526_975;
+
+/// The most pulses of a fill: value 0 has no cell set, and takes "every even cell".
+pub const PULSES_MOST: usize = 23;
 
 /// Weight number 1 first.
 const WEIGHTS: [u64; CELLS] = weights();
@@ -114,6 +117,15 @@ pub fn capacity(legal: &Cells) -> usize {
     data_cells(&filled(legal)).len()
 }
 
+fn set_cells(cells: &Cells) -> usize {
+    cells.iter().filter(|&&set| set).count()
+}
+
+/// "set cells after minus set cells before".
+pub fn pulses(legal: &Cells) -> usize {
+    set_cells(&filled(legal)) - set_cells(legal)
+}
+
 /// The data cells that reading back finds: "a 0 is passed over; a 1 is a separator, the next cell is a bit of data, and
 /// reading goes on after that".
 pub fn read_back(cells: &Cells) -> Vec<usize> {
@@ -155,9 +167,9 @@ pub fn decode_word(word: u64) -> Answer {
     legal_cells(word).map(|cells| sum(&cells))
 }
 
-/// Returns the filled word.
+/// "The word fill shall return, besides the word, how many cells it newly set."
 pub fn fill_word(word: u64) -> Answer {
-    legal_cells(word).map(|cells| number_of(&filled(&cells)))
+    legal_cells(word).map(|cells| fill_result(number_of(&filled(&cells)), pulses(&cells)))
 }
 
 /// Returns the word's capacity.
@@ -168,6 +180,9 @@ pub fn word_capacity(word: u64) -> Answer {
 #[cfg(test)]
 mod tests {
     use super::*;
+    use crate::answer::pulses_in;
+    use crate::cases::words::{any_value, value_with_pulses};
+    use crate::random::Random;
 
     /// The number of the word with just these cells set.
     fn with(cells: impl IntoIterator<Item = usize>) -> u64 {
@@ -178,11 +193,12 @@ mod tests {
         (0..=last).step_by(2)
     }
 
-    /// Encodes and decodes; returns the filled word and the capacity.
-    fn check(value: u32, word: u64) -> (u64, u64) {
+    /// Encodes and decodes; returns the filled word, its pulses and the capacity.
+    fn check(value: u32, word: u64) -> (u64, u64, u64) {
         assert_eq!(encode_word(value), Ok(word));
         assert_eq!(decode_word(word), Ok(u64::from(value)));
-        (fill_word(word).unwrap(), word_capacity(word).unwrap())
+        let filled = fill_word(word).unwrap();
+        (filled & 0xFFFF_FFFF_FFFF, filled >> 48, word_capacity(word).unwrap())
     }
 
     #[test]
@@ -192,34 +208,58 @@ mod tests {
 
     #[test]
     fn value_0() {
-        assert_eq!(check(0, 0), (with(even(44)), 23));
+        assert_eq!(check(0, 0), (with(even(44)), 23, 23));
     }
 
     #[test]
     fn value_1() {
-        assert_eq!(check(1, with([45])), (with(even(42).chain([45])), 22));
+        assert_eq!(check(1, with([45])), (with(even(42).chain([45])), 22, 22));
     }
 
     #[test]
     fn value_2() {
-        assert_eq!(check(2, with([44])).1, 23);
+        assert_eq!(check(2, with([44])), (with(even(44)), 22, 23));
     }
 
     #[test]
     fn value_3() {
-        assert_eq!(check(3, with([43])), (with(even(40).chain([43, 45])), 22));
+        assert_eq!(check(3, with([43])), (with(even(40).chain([43, 45])), 22, 22));
     }
 
     #[test]
     fn values_77_and_243() {
-        check(77, with([37, 39, 45]));
-        check(243, with([34, 41, 44]));
+        let filled = with(even(34).chain([37, 39, 41, 43, 45]));
+        assert_eq!(check(77, with([37, 39, 45])), (filled, 20, 22));
+        let filled = with(even(38).chain([41, 44]));
+        assert_eq!(check(243, with([34, 41, 44])), (filled, 19, 22));
     }
 
     #[test]
     fn value_3889371024() {
         let word = with((0..=45).step_by(3));
-        assert_eq!(check(3_889_371_024, word), (word, 15));
+        assert_eq!(check(3_889_371_024, word), (word, 0, 15));
+    }
+
+    /// The fill clears no cell, so that what it newly sets is what there is more.
+    #[test]
+    fn pulses_are_the_newly_set_cells() {
+        let mut random = Random::new(8);
+        for _ in 0..2_000 {
+            let before = legal_word(any_value(&mut random));
+            let after = filled(&before);
+            let newly_set = (0..CELLS).filter(|&cell| after[cell] && !before[cell]).count();
+            assert_eq!(pulses(&before), newly_set);
+            assert!((0..CELLS).all(|cell| after[cell] || !before[cell]));
+        }
+    }
+
+    #[test]
+    fn every_number_of_pulses() {
+        for wanted in 0..=PULSES_MOST {
+            let cells = legal_word(value_with_pulses(wanted));
+            assert_eq!(pulses(&cells), wanted);
+            assert_eq!(fill_word(number_of(&cells)).map(pulses_in), Ok(wanted));
+        }
     }
 
     #[test]

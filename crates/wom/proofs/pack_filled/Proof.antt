@@ -18,6 +18,9 @@ small c =
     let h = subst (λ (x : Filled). FaithfulParts 48 (filledCode x)) (c .f .given .1) (c .before .before .pre) in
     (omega (arith, h .low _ _ refl), omega (arith, h .high _ _ refl))
 
+cast-result : tie.Need-cast-result
+cast-result c = search needs
+
 add-result : tie.Need-add-result
 add-result c = omega (arith, small (c .before))
 
@@ -49,6 +52,7 @@ pack-filled-spec =
     tie.close
     (tie.spec
     enum-known-f
+    cast-result
     add-result
     enum-told
     enum-told-2

@@ -1,6 +1,6 @@
 //! Pages for the calls: of every state, valid and damaged.
 
-use super::words::{self, any_value, Hole, SPARSE_VALUE};
+use super::words::{self, any_value, value_with_pulses, Hole, SPARSE_VALUE};
 use crate::call::Entry;
 use crate::page::{self, FILLED, FIRST_ROUND, PAGE_BYTES, SECOND_BYTES_MOST, SECOND_ROUND, WORDS};
 use crate::random::Random;
@@ -68,6 +68,18 @@ pub fn with_data_cell(page: Vec<u8>, place: usize) -> Vec<u8> {
     let mut cells = words[index];
     cells[cell] = true;
     with_word(page, index, cells)
+}
+
+/// The values with another value in this place.
+pub fn with_value(mut values: [u32; WORDS], index: usize, value: u32) -> [u32; WORDS] {
+    values[index] = value;
+    values
+}
+
+/// The values of a page whose fill takes this many pulses, 0 to 1,012, which its words share evenly.
+pub fn values_with_pulses(pulses: usize) -> [u32; WORDS] {
+    let before = |index: usize| pulses * index / WORDS;
+    std::array::from_fn(|index| value_with_pulses(before(index + 1) - before(index)))
 }
 
 /// The values of a page: all alike, all different, or a mixture of the least and the most capacity.

@@ -11,7 +11,7 @@ use super::words::{
 };
 use crate::call::{Call, Entry};
 use crate::file::{file_bytes, FILE_PAGES_MOST};
-use crate::page::{data_cells_of, words_of, FIRST_BYTES, PAGE_BYTES, SECOND_BYTES_MOST, WORDS};
+use crate::page::{data_cells_of, words_of, FIRST_BYTES, PAGE_BYTES, PULSES_MOST, SECOND_BYTES_MOST, WORDS};
 use crate::random::Random;
 use crate::word::{
     cells_with_sum, data_cells, legal_word, number_of, weight, Cells, CELLS, LARGEST_SUM, LARGEST_VALUE,
@@ -49,6 +49,7 @@ pub fn calls() -> Vec<Call> {
     walk.flips();
     walk.data_cells();
     walk.fills();
+    walk.pulses();
     walk.named_lengths();
     walk.record_lengths();
     walk.exact_fits();
@@ -205,6 +206,16 @@ impl Walk {
         }
     }
 
+    /// Pages of every sum of pulses; and pages on which one word alone, each in turn, takes pulses, or takes none.
+    fn pulses(&mut self) {
+        let sums = (0..=PULSES_MOST).map(values_with_pulses);
+        let kinds = [(0, SPARSE_VALUE), (SPARSE_VALUE, 0)];
+        let alone = |index| kinds.map(|(one, others)| with_value([others; WORDS], index, one));
+        for values in sums.chain((0..WORDS).flat_map(alone)) {
+            self.pages(&[Entry::FillPage], &first_page(&values));
+        }
+    }
+
     /// Every data cell set by itself, on a filled page, and in a record or spare.
     fn data_cells(&mut self) {
         let filled = filled_page(&first_page(&[0; WORDS]));
@@ -354,9 +365,9 @@ impl Walk {
 #[cfg(test)]
 mod tests {
     use super::*;
-    use crate::answer::{number, value, Answer};
+    use crate::answer::{number, pulses_in, value, Answer};
     use crate::page::{page_capacity, FILLED, FIRST_ROUND, SECOND_ROUND};
-    use crate::word::{decode_word, read_back, well_formed};
+    use crate::word::{decode_word, pulses, read_back, well_formed};
     use std::collections::HashSet;
     use std::fmt::Debug;
     use std::hash::Hash;
@@ -437,7 +448,7 @@ mod tests {
 
     #[test]
     fn the_number_of_calls() {
-        assert_eq!(answered().len(), 80_322);
+        assert_eq!(answered().len(), 81_423);
     }
 
     /// "cell 0 is worth 2971215073": that word alone, and its neighbours.
@@ -576,6 +587,26 @@ mod tests {
         occurs(Entry::PageCapacity, wanted, |call, answer| {
             answer.is_ok().then(|| (capacity_kind(&call.page), call.page[0]))
         });
+    }
+
+    #[test]
+    fn every_number_of_pulses() {
+        occurs(Entry::FillWord, 0..=23, |_, answer| answer.ok().map(pulses_in));
+        occurs(Entry::FillPage, 0..=1_012, |_, answer| answer.ok());
+    }
+
+    /// The one word of a page that takes pulses, or takes none, where there is just one; and whether it takes them.
+    fn single_word(page: &[u8]) -> Option<(usize, bool)> {
+        let takes = words_of(page).map(|cells| pulses(&cells) > 0);
+        let single = |one: bool| takes.iter().filter(|&&word| word == one).count() == 1;
+        let one = [true, false].into_iter().find(|&one| single(one))?;
+        takes.iter().position(|&word| word == one).map(|index| (index, one))
+    }
+
+    #[test]
+    fn every_word_alone_with_pulses_and_alone_without() {
+        let wanted = (0..WORDS).flat_map(|index| [(index, true), (index, false)]);
+        occurs(Entry::FillPage, wanted, |call, answer| answer.ok().and_then(|_| single_word(&call.page)));
     }
 
     /// Some cells are sound in each of these states: the state alone decides.

@@ -2,7 +2,7 @@
 
 use crate::random::Random;
 use crate::word::{
-    cells_with_sum, data_cells, legal_word, number_of, weight, Cells, CELLS, LARGEST_SUM, LARGEST_VALUE,
+    cells_with_sum, data_cells, legal_word, number_of, sum, weight, Cells, CELLS, LARGEST_SUM, LARGEST_VALUE,
 };
 
 /// The value of the word with the least capacity: "cells 0, 3, 6 up to 45".
@@ -16,6 +16,12 @@ pub const EDGE_VALUE: u32 = 2_971_215_074;
 
 /// The values of document 01's list.
 pub const LISTED_VALUES: [u32; 7] = [0, 1, 2, 3, 77, 243, SPARSE_VALUE];
+
+/// The value whose word's fill takes this many pulses, 0 to 23: so many even cells are followed by set odd cells alone.
+pub fn value_with_pulses(pulses: usize) -> u32 {
+    let cells = std::array::from_fn(|cell| cell % 2 == 1 && cell > 2 * pulses);
+    sum(&cells) as u32
+}
 
 /// A value: near 0, near the largest, listed, near a weight, or anywhere.
 pub fn any_value(random: &mut Random) -> u32 {

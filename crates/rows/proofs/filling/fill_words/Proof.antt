@@ -50,9 +50,6 @@ counted c =
     let l = fill .before .before .before .before in
     pulsing-turn _ _ _ (l .loop .inv .2) (omega arith) _ _ _ _ (fill .before .load-word .ensures) (fill .fill-word .ensures) (c .pulses-of .ensures) (l .loop .inv .3)
 
-cast-total : tie.Need-cast-total Inv-loop μ-loop
-cast-total c = omega (arith, counted c .few)
-
 add-total : tie.Need-add-total Inv-loop μ-loop
 add-total c = omega (arith, counted c .few)
 
@@ -78,8 +75,7 @@ same-length c = ap length (c .before .loop .inv .2) ∙ length-putWords _ _
 returns : tie.Need-returns Inv-loop μ-loop
 returns c =
     let a = c .before .before .before .args in
-    let e : c .before .loop .i ≡ a .n = omega arith in
-    (
+    let e : c .before .loop .i ≡ a .n = omega arith in (
       c .before .loop .inv .3 .sum ∙ ap (λ (n : ℕ). pulsesAll (pageWords (a .page .now) n)) e,
       c .before .loop .inv .2 ∙ ap (λ (n : ℕ). putWords (a .page .now) (fillAll (pageWords (a .page .now) n))) e,
     )
@@ -95,7 +91,6 @@ fill-words-spec =
     fill-word-requires
     store-word-requires
     pulses-of-requires
-    cast-total
     add-total
     add-i
     loop-less
