@@ -10,7 +10,7 @@ use borrow.Author.Tests.{eq-eqb, ne-eqb, eqb-true}
 use lib.Dec.{T, eqb}
 use lib.ListN.{length, drop}
 use Rattle.cells.specs.Bytes.{atStart}
-use Rattle.answer.specs.Answer.{AnswerOf, Answer, result, refusal, Check, refuse, answer, after, None, numbers, among, RefusesBy}
+use Rattle.answer.specs.Answer.{Answer, result, refusal, Check, refuse, answer, after, None, numbers, among, RefusesBy}
 
 -- ---- the answer of a list
 

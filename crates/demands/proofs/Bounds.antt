@@ -88,21 +88,26 @@ capacity-replicate zero w = omega arith
 capacity-replicate (suc n) w = omega (arith, capacity-replicate n w, suc-mul n (capacity w))
 
 -- the page of 44 times one word
-all-alike : (w : List Bool) (c : ℕ) → Legal w → capacity w ≡ c → (P : List ℕ) × FirstRound P × (pageCapacityAnswer P ≡ result (44 * c))
-all-alike w c h e =
+pub all-alike : (w : List Bool) → Legal w → (P : List ℕ) × FirstRound P × (pageWords P 44 ≡ replicate 44 w)
+all-alike w h =
     let ws = replicate 44 w in
-    let r = row-replicate 44 w (h .0) in
-    let P = laid 1 0 0 ws [] in
-    let f : FirstRound P = laid-first sound256 ws [] r (each-replicate legal 44 w (h .1)) (λ i. omega arith) refl in
-    let k : capacityAll (pageWords P 44) ≡ 44 * c =
-    ap capacityAll (laid-words sound256 1 0 0 ws r []) ∙ capacity-replicate 44 w ∙ ap (λ (n : ℕ). 44 * n) e in
-    (P, f, capacity-counts P f ∙ ap result (sym (capacity-is P f) ∙ k))
+    let r = row-replicate 44 w (h .0) in (
+      laid 1 0 0 ws [],
+      laid-first sound256 ws [] r (each-replicate legal 44 w (h .1)) (λ i. omega arith) refl,
+      laid-words sound256 1 0 0 ws r [],
+    )
+
+capacity-met : (w : List Bool) (c : ℕ) → Legal w → capacity w ≡ c → (P : List ℕ) × FirstRound P × (pageCapacityAnswer P ≡ result (44 * c))
+capacity-met w c h e =
+    let p = all-alike w h in
+    let k : capacityAll (pageWords (p .0) 44) ≡ 44 * c = ap capacityAll (p .2) ∙ capacity-replicate 44 w ∙ ap (λ (n : ℕ). 44 * n) e in
+    (p .0, p .1, capacity-counts (p .0) (p .1) ∙ ap result (sym (capacity-is (p .0) (p .1)) ∙ k))
 
 pub least-met : (P : List ℕ) × FirstRound P × (pageCapacityAnswer P ≡ result 660)
-least-met = let m = capacity-bounds .least-met in all-alike (m .0) 15 (m .1) (m .2)
+least-met = let m = capacity-bounds .least-met in capacity-met (m .0) 15 (m .1) (m .2)
 
 pub greatest-met : (P : List ℕ) × FirstRound P × (pageCapacityAnswer P ≡ result 1012)
-greatest-met = let m = capacity-bounds .greatest-met in all-alike (m .0) 23 (m .1) (m .2)
+greatest-met = let m = capacity-bounds .greatest-met in capacity-met (m .0) 23 (m .1) (m .2)
 
 -- ---- "and so every record of up to 82 bytes fits each first-round page"
 

@@ -2,7 +2,7 @@
 -- Assumes nothing.
 use mathlib.Core.Bool.{Bool}
 use mathlib.Core.List.{List, [], _∷_, _++_}
-use mathlib.Core.Path.{_≡_, refl, sym, ap, _∙_, subst}
+use mathlib.Core.Path.{_≡_, refl, sym, ap, _∙_}
 use Prim.Native.Nat.{ℕ, zero, suc, _+_, _*_, _≤_}
 use native.Mathlib.Nat.{suc-mul}
 use native.Mathlib.Omega.{arith}
@@ -18,12 +18,13 @@ use Rattle.word.specs.Fill.{fill, fillPulses}
 use Rattle.word.specs.Claims.{Legal}
 use Rattle.word.proofs.Claims.{pulse-bounds}
 use Rattle.rows.specs.Page.{Shape, page256, state, fillAll, pulsesAll, filledPage, FirstRoundOf}
-use Rattle.rows.proofs.EachWord.{Each, each-word, each-replicate, row-replicate}
+use Rattle.rows.proofs.EachWord.{Each, each-word}
 use Rattle.page.proofs.FirstAnswers.{check-taken}
 use Rattle.filled.specs.Answer.{pagePulses, fillPageAnswer, fillPageLeaves}
 use Rattle.demands.specs.Demands.{FirstRound}
 use Rattle.demands.specs.Pulses.{PulsesOfAFill}
-use Rattle.demands.proofs.Laid.{wordBytes, Sound, sound256, laid, tail, laid-bits, laid-rest, laid-words, laid-first, laid-round}
+use Rattle.demands.proofs.Laid.{wordBytes, Sound, sound256, tail, laid-bits, laid-rest, laid-round}
+use Rattle.demands.proofs.Bounds.{all-alike}
 use Rattle.demands.proofs.FilledPages.{row-of, row-filled, filled-is, filled-filled, fill-kept, fill-taken, fill-leaves}
 
 -- ---- words
@@ -139,23 +140,18 @@ module _ (P : List ℕ) (n : ℕ) (b : Bytes P) (e : fillPageAnswer P ≡ result
   whole-after-fill : newlySet (bits P) (bits (fillPageLeaves P)) ≡ n + 1
   whole-after-fill = rw (given .1, fill-leaves P first-round) (whole-of sound256 P first-round)
 
--- the page of 44 times one word
-all-alike : (w : List Bool) (c : ℕ) → Legal w → fillPulses w ≡ c → (P : List ℕ) × FirstRound P × (fillPageAnswer P ≡ result (44 * c))
-all-alike w c h e =
-    let ws = replicate 44 w in
-    let r = row-replicate 44 w (h .0) in
-    let P = laid 1 0 0 ws [] in
-    let f : FirstRound P = laid-first sound256 ws [] r (each-replicate legal 44 w (h .1)) (λ i. omega arith) refl in
-    let k : pulsesAll (pageWords P 44) ≡ 44 * c =
-    ap pulsesAll (laid-words sound256 1 0 0 ws r []) ∙ pulses-replicate 44 w ∙ ap (λ (n : ℕ). 44 * n) e in
-    (P, f, fill-taken P f ∙ ap result k)
+pulses-met : (w : List Bool) (c : ℕ) → Legal w → fillPulses w ≡ c → (P : List ℕ) × FirstRound P × (fillPageAnswer P ≡ result (44 * c))
+pulses-met w c h e =
+    let p = all-alike w h in
+    let k : pulsesAll (pageWords (p .0) 44) ≡ 44 * c = ap pulsesAll (p .2) ∙ pulses-replicate 44 w ∙ ap (λ (n : ℕ). 44 * n) e in
+    (p .0, p .1, fill-taken (p .0) (p .1) ∙ ap result k)
 
 pub pulses-of-a-fill : PulsesOfAFill
 pulses-of-a-fill = record {
   sum = λ P n b e. given P n b e .1;
   greatest = most;
-  least-met = let m = pulse-bounds .least-met in all-alike (m .0) 0 (m .1) (m .2);
-  greatest-met = let m = pulse-bounds .greatest-met in all-alike (m .0) 23 (m .1) (m .2);
+  least-met = let m = pulse-bounds .least-met in pulses-met (m .0) 0 (m .1) (m .2);
+  greatest-met = let m = pulse-bounds .greatest-met in pulses-met (m .0) 23 (m .1) (m .2);
   cells-3-to-255 = cells-after;
   state-byte = state-after;
   whole-page = whole-after-fill;

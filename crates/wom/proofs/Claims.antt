@@ -16,7 +16,7 @@ use Rattle.answer.proofs.Apart.{taken-apart, parts-apart}
 use Rattle.answer.proofs.Tells.{less, unequal, either}
 use Rattle.window.specs.Words.{pieces, pageWords}
 use Rattle.window.proofs.Words.{length-pageWords}
-use Rattle.word.specs.Fill.{wellFormed, isFilled, fill, fillPulses, read, capacity}
+use Rattle.word.specs.Fill.{wellFormed, isFilled, fill, read, capacity}
 use Rattle.word.specs.Word.{legal}
 use Rattle.word.specs.Answer.{legalChecks, ifLegal, fillAnswer}
 use Rattle.word.proofs.Sums.{sum-fits, word-lt}

@@ -3,7 +3,7 @@
 use mathlib.Core.Bool.{Bool, true, false, cond}
 use mathlib.Core.List.{List, [], _∷_}
 use mathlib.Core.Path.{_≡_, ap, _∙_}
-use Prim.Native.Nat.{ℕ, _+_, _*_, _≤_}
+use Prim.Native.Nat.{ℕ, _+_, _*_, _^_, _≤_, _<_}
 use native.Mathlib.Omega.{arith}
 use lib.Dec.{T}
 use lib.ListN.{length}
@@ -13,7 +13,7 @@ use Rattle.cells.proofs.Pulses.{setCells-le, pulses-newly, pulses-exact}
 use Rattle.word.specs.Word.{sparse}
 use Rattle.word.specs.Fill.{fill, fillPulses}
 use Rattle.word.proofs.Filling.{length-fill, kept-fill, fill-apart}
-use Rattle.word.proofs.FreeCells.{cells-fill}
+use Rattle.word.proofs.FreeCells.{fill-lt, cells-fill}
 
 module _ (w : List Bool) where
   pub fill-newly : fillPulses w ≡ newlySet w (fill w)
@@ -47,6 +47,9 @@ fillPulses-half w t = omega (arith, fill-exact w, sparse-half false (fill w) (fi
 module _ (w f : ℕ) (e : f ≡ number (fill (cells 46 w))) where
   filled-cells : cells 46 f ≡ fill (cells 46 w)
   filled-cells = ap (cells 46) e ∙ cells-fill w
+
+  pub filled-small : f < 2 ^ 46
+  filled-small = omega (arith, e, fill-lt w)
 
   pub filled-kept : kept (cells 46 w) (cells 46 f) ≡ true
   unfolding fill

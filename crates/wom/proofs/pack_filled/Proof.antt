@@ -1,6 +1,6 @@
 -- `wom::pack_filled` meets its contract: the word and the pulses can be told apart, so the one has no bit of the other's.
 -- Assumes nothing.
-use mathlib.Core.Path.{refl, sym, ap, _∙_, subst}
+use mathlib.Core.Path.{refl, ap, subst}
 use Prim.Native.Nat.{_^_, _<_}
 use native.Mathlib.Omega.{arith}
 use borrow.Author.Needs.{needs}

@@ -7,8 +7,7 @@ use native.Mathlib.Omega.{arith}
 use lib.ListN.{length}
 use Rattle.window.specs.Words.{pageWords, putWords}
 use Rattle.window.proofs.Words.{length-putWords}
-use Rattle.word.proofs.FreeCells.{fill-lt}
-use Rattle.word.proofs.Pulses.{filled-kept}
+use Rattle.word.proofs.Pulses.{filled-small, filled-kept}
 use Rattle.rows.specs.Page.{fillAll, pulsesAll}
 use Rattle.rows.proofs.Loaded.{loaded-lt}
 use Rattle.rows.proofs.filling.fill_words.Proof.Turns.{Filling, Pulsing, filling-start, filling-turn, pulsing-start, pulsing-turn}
@@ -31,16 +30,13 @@ fill-word-requires : tie.Need-fill-word-requires Inv-loop μ-loop
 fill-word-requires c κs = loaded-lt _ _ _ (omega arith) (c .load-word .ensures)
 
 store-word-requires : tie.Need-store-word-requires Inv-loop μ-loop
-store-word-requires c κs = (omega arith, omega (arith, c .before .fill-word .ensures, fill-lt (c .before .before .load-word .result)))
+store-word-requires c κs = (omega arith, filled-small _ _ (c .before .fill-word .ensures))
 
 pulses-of-requires : tie.Need-pulses-of-requires Inv-loop μ-loop
 pulses-of-requires c κs =
     let fill = c .before .before .before .before in
-    let w = fill .before .load-word .result in (
-      loaded-lt _ _ _ (omega arith) (fill .before .load-word .ensures),
-      omega (arith, fill .fill-word .ensures, fill-lt w),
-      filled-kept w _ (fill .fill-word .ensures),
-    )
+    let e = fill .fill-word .ensures in
+    (loaded-lt _ _ _ (omega arith) (fill .before .load-word .ensures), filled-small _ _ e, filled-kept _ _ e)
 
 counted : (c : tie.After-pulses-of Inv-loop μ-loop) →
     let l = c .before .before .before .before .before .before .before .before .before in
@@ -48,7 +44,8 @@ counted : (c : tie.After-pulses-of Inv-loop μ-loop) →
 counted c =
     let fill = c .before .before .before .before .before in
     let l = fill .before .before .before .before in
-    pulsing-turn _ _ _ (l .loop .inv .2) (omega arith) _ _ _ _ (fill .before .load-word .ensures) (fill .fill-word .ensures) (c .pulses-of .ensures) (l .loop .inv .3)
+    pulsing-turn _ _ _ (l .loop .inv .2) (omega arith) _ _ _ _ (fill .before .load-word .ensures) (fill .fill-word .ensures)
+    (c .pulses-of .ensures) (l .loop .inv .3)
 
 add-total : tie.Need-add-total Inv-loop μ-loop
 add-total c = omega (arith, counted c .few)
