@@ -8,6 +8,7 @@ use Prim.Native.Nat.{ℕ, _-_, _^_, _≤_, _<_}
 use Rattle.answer.specs.Answer.{Answer, result, refusal, Check, refuse, answer, after, None, numbers, among, RefusesBy}
 use Rattle.answer.specs.Layout.{Faithful, FaithfulParts, Small}
 
+-- Of answers with results of any kind A.
 pub record FirstRefusalGiven (A : Type 0) : Type 0 where
   -- accepted exactly when no condition holds
   pub accepted : (cs : List Check) (x v : A) → (answer cs x ≡ result v) ↔ (None cs × (v ≡ x))

@@ -25,8 +25,8 @@ use Rattle.rows.specs.Page.{Shape, page256, fillAll, capacityAll, readAll, putA
 use Rattle.rows.proofs.EachWord.{Each, each-sparse, each-word, Row}
 use Rattle.rows.proofs.SecondWords.{capacity-count, row-fillAll}
 use Rattle.page.proofs.FirstAnswers.{check-taken}
-use Rattle.filled.specs.Answer.{pagePulses, fillPageAnswer, fillPageLeaves, roomFilled}
-use Rattle.demands.specs.Demands.{FirstRound}
+use Rattle.filled.specs.Answer.{fillPageAnswer, fillPageLeaves, roomFilled}
+use Rattle.demands.specs.Demands.{FirstRound, pagePulses}
 use Rattle.demands.proofs.Laid.{wordBytes, Sound, laid, tail, rewritten, laid-words, laid-tail, laid-first, laid-filled, laid-row, length-tail, laid-round, laid-round-filled, laid-filledPage, laid-secondPage}
 use Rattle.demands.proofs.Kept.{kept-fillAll, kept-putAll, header-filled, header-second, kept-laid}
 use Rattle.demands.proofs.TwiceWritten.{most-bytes, outcome-is, outcome-row, outcome-sized}
@@ -164,7 +164,7 @@ module _ {σ : Shape} (f : Sound σ) where
 
 -- ---- document 01's page: what fill page answers and leaves
 
-pub fill-taken : (P : List ℕ) → FirstRound P → fillPageAnswer P ≡ result (pagePulses page256 P)
+pub fill-taken : (P : List ℕ) → FirstRound P → fillPageAnswer P ≡ result (pagePulses P)
 fill-taken P f = check-taken page256 P _ _ (f .of-bytes) .1 (f, refl)
 
 pub fill-leaves : (P : List ℕ) → FirstRound P → fillPageLeaves P ≡ filledPage page256 P

@@ -20,8 +20,8 @@ use Rattle.word.proofs.Claims.{pulse-bounds}
 use Rattle.rows.specs.Page.{Shape, page256, state, fillAll, pulsesAll, filledPage, FirstRoundOf}
 use Rattle.rows.proofs.EachWord.{Each, each-word}
 use Rattle.page.proofs.FirstAnswers.{check-taken}
-use Rattle.filled.specs.Answer.{pagePulses, fillPageAnswer, fillPageLeaves}
-use Rattle.demands.specs.Demands.{FirstRound}
+use Rattle.filled.specs.Answer.{pulsesOf, fillPageAnswer, fillPageLeaves}
+use Rattle.demands.specs.Demands.{FirstRound, pagePulses}
 use Rattle.demands.specs.Pulses.{PulsesOfAFill}
 use Rattle.demands.proofs.Laid.{wordBytes, Sound, sound256, tail, laid-bits, laid-rest, laid-round}
 use Rattle.demands.proofs.Bounds.{all-alike}
@@ -67,7 +67,7 @@ module _ {σ : Shape} (f : Sound σ) (P : List ℕ) (p : FirstRoundOf σ P) wher
   abbrev t : List ℕ
   t = tail (wordBytes σ) P
 
-  most-of : pagePulses σ P ≤ 23 * n
+  most-of : pulsesOf σ P ≤ 23 * n
   most-of = omega (arith, row-of f P p .0, pulses-most words (row-of f P p .1) (each-word legal P n (p .words-legal)))
 
   -- before and after, without the header
@@ -77,7 +77,7 @@ module _ {σ : Shape} (f : Sound σ) (P : List ℕ) (p : FirstRoundOf σ P) wher
   rest-after : bits (drop 3 (filledPage σ P)) ≡ join (fillAll words) ++ bits t
   rest-after = ap (λ (Q : List ℕ). bits (drop 3 Q)) (filled-is f P p) ∙ laid-rest f 3 0 0 (fillAll words) (row-filled f P p) t
 
-  cells-of : setCells (bits (drop 3 P)) + pagePulses σ P ≡ setCells (bits (drop 3 (filledPage σ P)))
+  cells-of : setCells (bits (drop 3 P)) + pulsesOf σ P ≡ setCells (bits (drop 3 (filledPage σ P)))
   cells-of =
       omega (
         arith,
@@ -95,7 +95,7 @@ module _ {σ : Shape} (f : Sound σ) (P : List ℕ) (p : FirstRoundOf σ P) wher
   whole-after : bits (filledPage σ P) ≡ bits (3 ∷ 0 ∷ 0 ∷ []) ++ (join (fillAll words) ++ bits t)
   whole-after = ap bits (filled-is f P p) ∙ laid-bits f 3 0 0 (fillAll words) (row-filled f P p) t
 
-  whole-of : newlySet (bits P) (bits (filledPage σ P)) ≡ pagePulses σ P + 1
+  whole-of : newlySet (bits P) (bits (filledPage σ P)) ≡ pulsesOf σ P + 1
   whole-of =
       let F = filledPage σ P in
       let s = filled-filled f P p in
@@ -122,7 +122,7 @@ module _ {σ : Shape} (f : Sound σ) (P : List ℕ) (p : FirstRoundOf σ P) wher
 
 -- what is answered is the page's pulses, and the page is a first-round page
 module _ (P : List ℕ) (n : ℕ) (b : Bytes P) (e : fillPageAnswer P ≡ result n) where
-  given : FirstRound P × (n ≡ pagePulses page256 P)
+  given : FirstRound P × (n ≡ pagePulses P)
   given = check-taken page256 P _ n b .0 e
 
   abbrev first-round : FirstRound P

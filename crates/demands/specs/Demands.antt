@@ -34,7 +34,7 @@ use Rattle.word.specs.Claims.{WordRefusals}
 use Rattle.rows.specs.Page.{page256, state, byte1, byte2, blankOf, FirstRoundOf, FilledOf, SecondRoundOf, FitsOf, outcomeOf, fillAll, capacityAll, secondBitsOf}
 use Rattle.page.specs.Terms.{SizedOf, HeaderOf, AllPassOf, LowestBadOf, RefusalsOf}
 use Rattle.page.specs.Answer.{writeFirstAnswer, writeFirstLeaves, readFirstAnswer, readFirstLeaves}
-use Rattle.filled.specs.Answer.{pagePulses, fillPageAnswer, fillPageLeaves, pageCapacityAnswer}
+use Rattle.filled.specs.Answer.{pulsesOf, fillPageAnswer, fillPageLeaves, pageCapacityAnswer}
 use Rattle.second.specs.Terms.{SecondHeaderOf}
 use Rattle.second.specs.Answer.{writeSecondAnswer, writeSecondLeaves, readSecondAnswer, readSecondLeaves}
 
@@ -99,6 +99,10 @@ dataCells P = dataCellsAll (fillAll (pageWords P (page256 .words)))
 abbrev pub filledCells : List ℕ → ℕ
 filledCells P = dataCellsAll (pageWords P (page256 .words))
 
+-- the pulses of filling a page: "the sum over its words"
+abbrev pub pagePulses : List ℕ → ℕ
+pagePulses P = pulsesOf page256 P
+
 -- the value of word i of a first record: four bytes, highest first
 abbrev pub valueAt : List ℕ → ℕ → ℕ
 valueAt D i = number (bits (take 4 (drop (4 * i) D)))
@@ -126,7 +130,7 @@ pub record Demand1 : Type 0 where
   pub page-capacity : (P : List ℕ) (c : ℕ) → Bytes P
       → (pageCapacityAnswer P ≡ result c) ↔ ((FirstRound P × (c ≡ dataCells P)) ⊎ (Filled P × (c ≡ filledCells P)))
   -- "Filling a page returns the sum over its words" (specs/Pulses.antt says more of it)
-  pub fill-page : (P : List ℕ) (n : ℕ) → Bytes P → (fillPageAnswer P ≡ result n) ↔ (FirstRound P × (n ≡ pagePulses page256 P))
+  pub fill-page : (P : List ℕ) (n : ℕ) → Bytes P → (fillPageAnswer P ≡ result n) ↔ (FirstRound P × (n ≡ pagePulses P))
   pub write-second : (P R : List ℕ) (v : ℕ) → Bytes P
       → (writeSecondAnswer P R ≡ result v) ↔ (Filled P × (8 * length R ≤ filledCells P) × (v ≡ 0))
   pub read-second : (P out : List ℕ) (n : ℕ) → Bytes P → (readSecondAnswer P out ≡ result n) ↔ (SecondRound P × (n ≡ byte1 P) × (n ≤ length out))
@@ -215,7 +219,7 @@ pub record Demand2 : Type 0 where
 -- that fits Q: ...
 pub record Demand3 : Type 0 where
   -- filling P is accepted, returns its pulses, and leaves a filled page
-  pub fill-accepted : (P : List ℕ) → FirstRound P → (fillPageAnswer P ≡ result (pagePulses page256 P)) × Filled (fillPageLeaves P)
+  pub fill-accepted : (P : List ℕ) → FirstRound P → (fillPageAnswer P ≡ result (pagePulses P)) × Filled (fillPageLeaves P)
   -- "writing R over P is accepted, leaves exactly the outcome that the rules define": writing over what filling leaves
   pub accepted : (P R : List ℕ) → FirstRound P → Fits R P
       → (writeSecondAnswer (fillPageLeaves P) R ≡ result 0) × (writeSecondLeaves (fillPageLeaves P) R ≡ outcome P R)

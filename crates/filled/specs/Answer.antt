@@ -22,12 +22,12 @@ use Rattle.filled.specs.declared.check.FilledCheck.the-variants as fille
 -- ---- fill page
 
 -- the pulses of filling a page. The cell that the state newly sets is in none of its words: "the one in the state byte is not in it"
-abbrev pub pagePulses : Shape → List ℕ → ℕ
-pagePulses s page = pulsesAll (pageWords page (s .words))
+abbrev pub pulsesOf : Shape → List ℕ → ℕ
+pulsesOf s page = pulsesAll (pageWords page (s .words))
 
 -- "Filling refuses 1, 5, 6, 7 as read first does"; it "returns the sum over its words"
 abbrev pub fillPageAnswer : List ℕ → Answer
-fillPageAnswer page = answer (firstChecks page256 page) (pagePulses page256 page)
+fillPageAnswer page = answer (firstChecks page256 page) (pulsesOf page256 page)
 
 -- "Filling turns a first-round page into state 03 (hexadecimal) with bytes 1 and 2 at 0."
 abbrev pub fillPageLeaves : List ℕ → List ℕ

@@ -9,9 +9,9 @@ use lib.Seq.{set-split}
 use Rattle.window.specs.Words.{pageWords, putWords}
 use Rattle.window.proofs.Words.{pageWords-set}
 use Rattle.rows.specs.Page.{Shape, fillAll, pulsesAll, filledPage}
-use Rattle.filled.specs.Answer.{pagePulses}
+use Rattle.filled.specs.Answer.{pulsesOf}
 
-pub pulses-set : (s : Shape) (P : List ℕ) → pulsesAll (pageWords (set P 0 3) (s .words)) ≡ pagePulses s P
+pub pulses-set : (s : Shape) (P : List ℕ) → pulsesAll (pageWords (set P 0 3) (s .words)) ≡ pulsesOf s P
 pulses-set s P = ap pulsesAll (pageWords-set P 0 3 (s .words) (omega arith))
 
 pub filled-set : (s : Shape) (P : List ℕ) → 0 < length P → putWords (set P 0 3) (fillAll (pageWords (set P 0 3) (s .words))) ≡ filledPage s P
