@@ -5,8 +5,7 @@ use mathlib.Core.Bool.{Bool}
 use mathlib.Core.List.{List, [], _∷_}
 use mathlib.Core.Logic.{inl, inr}
 use mathlib.Core.Path.{_≡_, refl, sym, ap, ap₂, _∙_, subst}
-use Prim.Native.Nat.{ℕ, zero, suc, _+_, _*_, _≤_}
-use native.Mathlib.Nat.{suc-mul}
+use Prim.Native.Nat.{ℕ, _+_, _*_, _≤_}
 use native.Mathlib.Omega.{arith}
 use lib.ListN.{length, replicate}
 use Rattle.cells.specs.Bytes.{Bytes}
@@ -16,9 +15,9 @@ use Rattle.word.specs.Word.{sparse, legal}
 use Rattle.word.specs.Fill.{capacity}
 use Rattle.word.specs.Claims.{Legal}
 use Rattle.word.proofs.Claims.{capacity-bounds}
-use Rattle.rows.specs.Page.{Shape, page256, FirstRoundOf, fillAll, capacityAll, filledPage}
+use Rattle.rows.specs.Page.{Shape, page256, FirstRoundOf, fillAll, sumOver, capacityAll, filledPage}
 use Rattle.rows.proofs.EachWord.{Each, each-sparse, each-word, each-replicate, row-replicate}
-use Rattle.rows.proofs.Capacities.{capacity-bounds-all}
+use Rattle.rows.proofs.Sums.{sumOver-replicate, capacity-bounds-all}
 use Rattle.filled.specs.Answer.{roomFilled, pageCapacityAnswer}
 use Rattle.filled.proofs.FilledAnswers.{capacity-taken}
 use Rattle.demands.specs.Demands.{FirstRound, Filled, Fits, dataCellsAll, dataCells, filledCells}
@@ -27,7 +26,7 @@ use Rattle.demands.proofs.FilledPages.{filled-words, filled-filled, fil
 
 -- of words without neighbours
 capacity-dataCells : (ws : List (List Bool)) → Each sparse ws → capacityAll ws ≡ dataCellsAll (fillAll ws)
-unfolding capacityAll dataCellsAll fillAll
+unfolding sumOver dataCellsAll fillAll
 capacity-dataCells [] h = refl
 capacity-dataCells (w ∷ ws) h = ap₂ (λ (a b : ℕ). a + b) (capacity-bounds .counts w (h .0)) (capacity-dataCells ws (h .1))
 
@@ -81,12 +80,6 @@ least-filled F q =
     let o = filled-exactly sound256 F .0 q in
     subst (λ (G : List ℕ). 660 ≤ roomFilled page256 G) (o .2) (omega (arith, room-of-fill (o .0) (o .1), bounds (o .0) (o .1)))
 
--- one word, n times
-pub capacity-replicate : (n : ℕ) (w : List Bool) → capacityAll (replicate n w) ≡ n * capacity w
-unfolding capacityAll
-capacity-replicate zero w = omega arith
-capacity-replicate (suc n) w = omega (arith, capacity-replicate n w, suc-mul n (capacity w))
-
 -- the page of 44 times one word
 pub all-alike : (w : List Bool) → Legal w → (P : List ℕ) × FirstRound P × (pageWords P 44 ≡ replicate 44 w)
 all-alike w h =
@@ -100,7 +93,7 @@ all-alike w h =
 capacity-met : (w : List Bool) (c : ℕ) → Legal w → capacity w ≡ c → (P : List ℕ) × FirstRound P × (pageCapacityAnswer P ≡ result (44 * c))
 capacity-met w c h e =
     let p = all-alike w h in
-    let k : capacityAll (pageWords (p .0) 44) ≡ 44 * c = ap capacityAll (p .2) ∙ capacity-replicate 44 w ∙ ap (λ (n : ℕ). 44 * n) e in
+    let k : capacityAll (pageWords (p .0) 44) ≡ 44 * c = ap capacityAll (p .2) ∙ sumOver-replicate capacity 44 w ∙ ap (λ (n : ℕ). 44 * n) e in
     (p .0, p .1, capacity-counts (p .0) (p .1) ∙ ap result (sym (capacity-is (p .0) (p .1)) ∙ k))
 
 pub least-met : (P : List ℕ) × FirstRound P × (pageCapacityAnswer P ≡ result 660)

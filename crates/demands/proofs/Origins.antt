@@ -17,7 +17,7 @@ use Rattle.word.specs.Claims.{Legal}
 use Rattle.word.proofs.Formed.{comes-from}
 use Rattle.word.proofs.Filling.{fill-fill}
 use Rattle.word.proofs.Claims.{second-bits-kept, well-formed-words}
-use Rattle.rows.specs.Page.{fillAll, capacityAll, readAll, putAll}
+use Rattle.rows.specs.Page.{fillAll, sumOver, capacityAll, readAll, putAll}
 use Rattle.rows.proofs.EachWord.{Each, Row}
 use Rattle.rows.proofs.SecondWords.{put-front}
 
@@ -42,7 +42,7 @@ pub record Origin (ws us : List (List Bool)) : Type 0 where
   pub same-room : capacityAll us ≡ length (readAll ws)
 
 origin-more : (w u : List Bool) (ws us : List (List Bool)) → Legal u → clear w ≡ fill u → Origin ws us → Origin (w ∷ ws) (u ∷ us)
-unfolding putAll fillAll readAll capacityAll capacity
+unfolding putAll fillAll readAll sumOver capacity
 origin-more w u ws us h e o =
     let c : length (read (fill u)) ≡ length (read w) = ap (λ (x : List Bool). length (read x)) (sym e) ∙ well-formed-words .same-count w in
     record {
@@ -56,7 +56,7 @@ origin-more w u ws us h e o =
     }
 
 pub origins : (ws : List (List Bool)) → Words ws → Each wellFormed ws → (us : List (List Bool)) × Origin ws us
-unfolding putAll fillAll readAll capacityAll
+unfolding putAll fillAll readAll sumOver
 origins [] h t = ([], record { row = (refl, tt); all-legal = tt; put-again = refl; same-room = refl })
 origins (w ∷ ws) h t =
     let u = well-formed-words .comes-from w (h .0) .0 (t .0) in

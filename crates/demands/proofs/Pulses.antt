@@ -3,22 +3,22 @@
 use mathlib.Core.Bool.{Bool}
 use mathlib.Core.List.{List, [], _∷_, _++_}
 use mathlib.Core.Path.{_≡_, refl, sym, ap, _∙_}
-use Prim.Native.Nat.{ℕ, zero, suc, _+_, _*_, _≤_}
-use native.Mathlib.Nat.{suc-mul}
+use Prim.Native.Nat.{ℕ, _+_, _*_, _≤_}
 use native.Mathlib.Omega.{arith}
-use lib.ListN.{length, drop, replicate}
+use lib.ListN.{length, drop}
 use Rattle.cells.specs.Cells.{first, rest, bit, cells, setCells, newlySet}
 use Rattle.cells.specs.Bytes.{bits, Bytes}
 use Rattle.cells.proofs.Bytes.{length-bits}
 use Rattle.cells.proofs.Pulses.{setCells-append, pulses-newly, pulses-exact}
 use Rattle.answer.specs.Answer.{result}
-use Rattle.window.specs.Words.{join, pageWords, Words}
+use Rattle.window.specs.Words.{join, pageWords}
 use Rattle.word.specs.Word.{legal}
 use Rattle.word.specs.Fill.{fill, fillPulses}
 use Rattle.word.specs.Claims.{Legal}
 use Rattle.word.proofs.Claims.{pulse-bounds}
-use Rattle.rows.specs.Page.{Shape, page256, state, fillAll, pulsesAll, filledPage, FirstRoundOf}
-use Rattle.rows.proofs.EachWord.{Each, each-word}
+use Rattle.rows.specs.Page.{Shape, page256, state, fillAll, sumOver, pulsesAll, filledPage, FirstRoundOf}
+use Rattle.rows.proofs.EachWord.{each-word}
+use Rattle.rows.proofs.Sums.{sumOver-replicate, sumOver-bounds}
 use Rattle.page.proofs.FirstAnswers.{check-taken}
 use Rattle.filled.specs.Answer.{pulsesOf, fillPageAnswer, fillPageLeaves}
 use Rattle.demands.specs.Demands.{FirstRound, pagePulses}
@@ -30,7 +30,7 @@ use Rattle.demands.proofs.FilledPages.{row-of, row-filled, filled-is, f
 -- ---- words
 
 cells-fillAll : (ws : List (List Bool)) → setCells (join ws) + pulsesAll ws ≡ setCells (join (fillAll ws))
-unfolding join fillAll pulsesAll
+unfolding join fillAll sumOver
 cells-fillAll [] = omega arith
 cells-fillAll (w ∷ ws) =
     omega (
@@ -40,16 +40,6 @@ cells-fillAll (w ∷ ws) =
       pulse-bounds .exact w,
       cells-fillAll ws,
     )
-
-pulses-most : (ws : List (List Bool)) → Words ws → Each legal ws → pulsesAll ws ≤ 23 * length ws
-unfolding pulsesAll
-pulses-most [] h t = omega arith
-pulses-most (w ∷ ws) h t = omega (arith, pulse-bounds .greatest w (h .0, t .0), pulses-most ws (h .1) (t .1))
-
-pulses-replicate : (n : ℕ) (w : List Bool) → pulsesAll (replicate n w) ≡ n * fillPulses w
-unfolding pulsesAll
-pulses-replicate zero w = omega arith
-pulses-replicate (suc n) w = omega (arith, pulses-replicate n w, suc-mul n (fillPulses w))
 
 -- ---- pages
 
@@ -68,7 +58,13 @@ module _ {σ : Shape} (f : Sound σ) (P : List ℕ) (p : FirstRoundOf σ P) wher
   t = tail (wordBytes σ) P
 
   most-of : pulsesOf σ P ≤ 23 * n
-  most-of = omega (arith, row-of f P p .0, pulses-most words (row-of f P p .1) (each-word legal P n (p .words-legal)))
+  most-of =
+      let r = row-of f P p in
+      omega (
+        arith,
+        r .0,
+        sumOver-bounds fillPulses 0 23 (λ w l. (omega arith, pulse-bounds .greatest w l)) words (r .1) (each-word legal P n (p .words-legal)),
+      )
 
   -- before and after, without the header
   rest-before : bits (drop 3 P) ≡ join words ++ bits t
@@ -143,7 +139,7 @@ module _ (P : List ℕ) (n : ℕ) (b : Bytes P) (e : fillPageAnswer P ≡ result
 pulses-met : (w : List Bool) (c : ℕ) → Legal w → fillPulses w ≡ c → (P : List ℕ) × FirstRound P × (fillPageAnswer P ≡ result (44 * c))
 pulses-met w c h e =
     let p = all-alike w h in
-    let k : pulsesAll (pageWords (p .0) 44) ≡ 44 * c = ap pulsesAll (p .2) ∙ pulses-replicate 44 w ∙ ap (λ (n : ℕ). 44 * n) e in
+    let k : pulsesAll (pageWords (p .0) 44) ≡ 44 * c = ap pulsesAll (p .2) ∙ sumOver-replicate fillPulses 44 w ∙ ap (λ (n : ℕ). 44 * n) e in
     (p .0, p .1, fill-taken (p .0) (p .1) ∙ ap result k)
 
 pub pulses-of-a-fill : PulsesOfAFill

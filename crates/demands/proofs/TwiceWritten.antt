@@ -19,7 +19,7 @@ use Rattle.word.specs.Word.{legal}
 use Rattle.word.specs.Fill.{wellFormed}
 use Rattle.rows.specs.Page.{Shape, state, byte1, byte2, fillAll, capacityAll, readAll, putAll, outcomeOf, secondRecord, FirstRoundOf, SecondRoundOf, FitsOf}
 use Rattle.rows.proofs.EachWord.{Each, each-sparse, each-word, word-each, Row}
-use Rattle.rows.proofs.Capacities.{capacity-bounds-all}
+use Rattle.rows.proofs.Sums.{capacity-bounds-all}
 use Rattle.rows.proofs.SecondWords.{read-back, putAll-spare}
 use Rattle.demands.proofs.Laid.{wordBytes, Sound, laid, tail, rewritten, laid-words, laid-length, laid-tail, laid-first, laid-row, row-rewritten, length-tail, laid-own, laid-outcome}
 use Rattle.demands.proofs.Origins.{formed-putAll, Origin, origins}

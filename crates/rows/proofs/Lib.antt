@@ -5,7 +5,6 @@ pub mod EachWord
 pub mod FirstRecord
 pub mod SecondWords
 pub mod Loaded
-pub mod Measuring
+pub mod Sums
 pub mod Counting
 pub mod Blank
-pub mod Capacities

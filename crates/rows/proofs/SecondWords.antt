@@ -10,10 +10,10 @@ use lib.Seq.{drop-drop, drop-at, take-at, take-all}
 use Rattle.cells.specs.Cells.{fit, someSet}
 use Rattle.cells.proofs.Fits.{fit-spare, length-fit, fit-add, fit-take}
 use Rattle.window.specs.Words.{Words}
-use Rattle.word.specs.Fill.{fill, fillPulses, read, capacity, put}
+use Rattle.word.specs.Fill.{fill, read, capacity, put}
 use Rattle.word.proofs.Filling.{length-fill, capacity-le}
 use Rattle.word.proofs.SecondBits.{length-put, read-put, put-fit}
-use Rattle.rows.specs.Page.{fillAll, pulsesAll, capacityAll, readAll, putAll}
+use Rattle.rows.specs.Page.{fillAll, sumOver, capacityAll, readAll, putAll}
 use Rattle.rows.proofs.EachWord.{Row}
 
 -- ---- one more word, as a loop over the words goes on
@@ -22,16 +22,6 @@ pub fillAll-more : (ws : List (List Bool)) (w : List Bool) → fillAll (ws ++ (w
 unfolding fillAll
 fillAll-more [] w = refl
 fillAll-more (v ∷ ws) w = ap (λ (r : List (List Bool)). fill v ∷ r) (fillAll-more ws w)
-
-pub pulsesAll-more : (ws : List (List Bool)) (w : List Bool) → pulsesAll (ws ++ (w ∷ [])) ≡ pulsesAll ws + fillPulses w
-unfolding pulsesAll
-pulsesAll-more [] w = omega arith
-pulsesAll-more (v ∷ ws) w = omega (arith, pulsesAll-more ws w)
-
-pub capacityAll-more : (ws : List (List Bool)) (w : List Bool) → capacityAll (ws ++ (w ∷ [])) ≡ capacityAll ws + capacity w
-unfolding capacityAll
-capacityAll-more [] w = omega arith
-capacityAll-more (v ∷ ws) w = omega (arith, capacityAll-more ws w)
 
 pub readAll-more : (ws : List (List Bool)) (w : List Bool) → readAll (ws ++ (w ∷ [])) ≡ readAll ws ++ read w
 unfolding readAll
@@ -97,7 +87,7 @@ read-putAll (w ∷ ws) l =
 
 -- the capacity of words counts their data cells after the fill
 pub capacity-count : (ws : List (List Bool)) → capacityAll ws ≡ length (readAll (fillAll ws))
-unfolding capacityAll readAll fillAll capacity
+unfolding sumOver readAll fillAll capacity
 capacity-count [] = refl
 capacity-count (w ∷ ws) = omega (arith, length-append (read (fill w)) (readAll (fillAll ws)), capacity-count ws)
 

@@ -73,15 +73,18 @@ unfoldable pub fillAll : List (List Bool) → List (List Bool)
 fillAll [] = []
 fillAll (w ∷ ws) = fill w ∷ fillAll ws
 
+-- the sum over words of a number that each of them has
+unfoldable pub sumOver : (List Bool → ℕ) → List (List Bool) → ℕ
+sumOver count [] = 0
+sumOver count (w ∷ ws) = count w + sumOver count ws
+
 -- the pulses of filling a page are "the sum over its words" (document 02, Change 3)
-unfoldable pub pulsesAll : List (List Bool) → ℕ
-pulsesAll [] = 0
-pulsesAll (w ∷ ws) = fillPulses w + pulsesAll ws
+abbrev pub pulsesAll : List (List Bool) → ℕ
+pulsesAll ws = sumOver fillPulses ws
 
 -- a page's capacity is the sum over its words
-unfoldable pub capacityAll : List (List Bool) → ℕ
-capacityAll [] = 0
-capacityAll (w ∷ ws) = capacity w + capacityAll ws
+abbrev pub capacityAll : List (List Bool) → ℕ
+capacityAll ws = sumOver capacity ws
 
 -- what the data cells of words hold, word 0 first; each word starts afresh
 unfoldable pub readAll : List (List Bool) → List Bool

@@ -16,14 +16,14 @@ use Rattle.answer.proofs.Apart.{taken-apart, parts-apart}
 use Rattle.answer.proofs.Tells.{less, unequal, either}
 use Rattle.window.specs.Words.{pieces, pageWords}
 use Rattle.window.proofs.Words.{length-pageWords}
-use Rattle.word.specs.Fill.{wellFormed, isFilled, fill, read, capacity}
+use Rattle.word.specs.Fill.{wellFormed, isFilled, fill, fillPulses, read, capacity}
 use Rattle.word.specs.Word.{legal}
 use Rattle.word.specs.Answer.{legalChecks, ifLegal, fillAnswer}
 use Rattle.word.proofs.Sums.{sum-fits, word-lt}
 use Rattle.word.proofs.Filling.{capacity-le, length-fill}
 use Rattle.word.proofs.FreeCells.{fill-lt}
 use Rattle.word.proofs.Pulses.{fillPulses-le}
-use Rattle.rows.specs.Page.{page256, state, byte1, byte2, lowest, pulsesAll, capacityAll, readAll}
+use Rattle.rows.specs.Page.{page256, state, byte1, byte2, lowest, sumOver, pulsesAll, capacityAll, readAll}
 use Rattle.rows.proofs.Lowest.{lowest-le}
 use Rattle.page.specs.Answer.{writeFirstChecks, stateChecks, firstChecks, readFirstChecks}
 use Rattle.filled.specs.Answer.{filledChecks, capacityChecks, roomFilled, roomOf}
@@ -40,10 +40,12 @@ over-word : (w x : ℕ) → x < 2 ^ 56 → Faithful (ifLegal w x)
 unfolding legalChecks
 over-word w x h = taken-apart (legalChecks w) x (omega arith, (omega arith, (omega arith, tt))) (λ n. h)
 
-capacity-small : (w : ℕ) → capacity (cells 46 w) < 2 ^ 56
+capacity-few : (w : List Bool) → capacity w ≤ length w
 unfolding capacity read fill
-capacity-small w =
-    omega (arith, capacity-le false (fill (cells 46 w)), length-fill false (cells 46 w), length-cells 46 w)
+capacity-few w = omega (arith, capacity-le false (fill w), length-fill false w)
+
+capacity-small : (w : ℕ) → capacity (cells 46 w) < 2 ^ 56
+capacity-small w = omega (arith, capacity-few (cells 46 w), length-cells 46 w)
 
 pub fill-parts : (w : ℕ) → FaithfulParts 48 (fillAnswer w)
 unfolding legalChecks
@@ -62,26 +64,20 @@ word-answers-faithful = record {
 
 -- ---- pages
 
-pulses-small : (n : ℕ) (l : List Bool) → pulsesAll (pieces n l) ≤ 46 * n
-unfolding pulsesAll pieces
-pulses-small zero l = omega arith
-pulses-small (suc n) l =
-    omega (arith, length-take 46 l, min-le-left 46 (length l), fillPulses-le (take 46 l), pulses-small n (drop 46 l))
+-- a sum over words of a number that is at most the word's cells
+sums-small : (count : List Bool → ℕ) → ((w : List Bool) → count w ≤ length w) → (n : ℕ) (l : List Bool) → sumOver count (pieces n l) ≤ 46 * n
+unfolding sumOver pieces
+sums-small count h zero l = omega arith
+sums-small count h (suc n) l =
+    omega (arith, length-take 46 l, min-le-left 46 (length l), h (take 46 l), sums-small count h n (drop 46 l))
 
 fill-small : (P : List ℕ) → pulsesAll (pageWords P 44) < 2 ^ 56
 unfolding pageWords
-fill-small P = omega (arith, pulses-small 44 (drop 24 (bits P)))
-
-capacities-small : (n : ℕ) (l : List Bool) → capacityAll (pieces n l) ≤ 23 * n
-unfolding capacityAll pieces capacity read fill
-capacities-small zero l = omega arith
-capacities-small (suc n) l =
-    let m : length (take 46 l) ≤ 46 = omega (arith, length-take 46 l, min-le-left 46 (length l)) in
-    omega (arith, m, capacity-le false (fill (take 46 l)), length-fill false (take 46 l), capacities-small n (drop 46 l))
+fill-small P = omega (arith, sums-small fillPulses fillPulses-le 44 (drop 24 (bits P)))
 
 page-small : (P : List ℕ) → capacityAll (pageWords P 44) < 2 ^ 56
 unfolding pageWords
-page-small P = omega (arith, capacities-small 44 (drop 24 (bits P)))
+page-small P = omega (arith, sums-small capacity capacity-few 44 (drop 24 (bits P)))
 
 word-small : (test : List Bool → Bool) (P : List ℕ) → lowest test (pageWords P 44) < 2 ^ 56
 word-small test P = omega (arith, lowest-le test (pageWords P 44), length-pageWords P 44)

@@ -7,21 +7,23 @@ use native.Mathlib.Omega.{arith}
 use lib.ListN.{length}
 use Rattle.window.specs.Words.{pageWords, putWords}
 use Rattle.window.proofs.Words.{length-putWords}
+use Rattle.word.specs.Fill.{fillPulses}
 use Rattle.word.proofs.Pulses.{filled-small, filled-kept}
 use Rattle.rows.specs.Page.{fillAll, pulsesAll}
 use Rattle.rows.proofs.Loaded.{loaded-lt}
-use Rattle.rows.proofs.filling.fill_words.Proof.Turns.{Filling, Pulsing, filling-start, filling-turn, pulsing-start, pulsing-turn}
+use Rattle.rows.proofs.Sums.{Summing, summing-start, summing-turn}
+use Rattle.rows.proofs.filling.fill_words.Proof.Turns.{Filling, filling-start, filling-turn, pulses-turn}
 use Rattle.rows.proofs.filling.fill_words.Statement.{statement}
 use Rattle.rows.proofs.filling.fill_words.Tie as tie
 
 abbrev Inv-loop : tie.InvT-loop
-Inv-loop page₀ n total₀ i₀ page total i = (i ≤ n) × (length page ≡ length page₀) × Filling page₀ page i × Pulsing page₀ total i
+Inv-loop page₀ n total₀ i₀ page total i = (i ≤ n) × (length page ≡ length page₀) × Filling page₀ page i × Summing fillPulses 46 page₀ total i
 
 abbrev μ-loop : tie.MeasureT-loop
 μ-loop page₀ n total₀ i₀ page total i = n - i
 
 loop-holds : tie.Need-loop-holds Inv-loop μ-loop
-loop-holds c = (omega arith, refl, filling-start _ (λ j. omega (arith, c .slice-known .given j)), pulsing-start _)
+loop-holds c = (omega arith, refl, filling-start _ (λ j. omega (arith, c .slice-known .given j)), summing-start fillPulses 46 _)
 
 load-word-requires : tie.Need-load-word-requires Inv-loop μ-loop
 load-word-requires c κs = omega arith
@@ -40,12 +42,12 @@ pulses-of-requires c κs =
 
 counted : (c : tie.After-pulses-of Inv-loop μ-loop) →
     let l = c .before .before .before .before .before .before .before .before .before in
-    Pulsing (l .before .before .args .page .now) (l .loop .total + c .pulses-of .result) (l .loop .i + 1)
+    Summing fillPulses 46 (l .before .before .args .page .now) (l .loop .total + c .pulses-of .result) (l .loop .i + 1)
 counted c =
     let fill = c .before .before .before .before .before in
     let l = fill .before .before .before .before in
-    pulsing-turn _ _ _ (l .loop .inv .2) (omega arith) _ _ _ _ (fill .before .load-word .ensures) (fill .fill-word .ensures)
-    (c .pulses-of .ensures) (l .loop .inv .3)
+    let p = pulses-turn _ _ _ (l .loop .inv .2) (omega arith) _ _ _ (fill .before .load-word .ensures) (fill .fill-word .ensures) (c .pulses-of .ensures) in
+    summing-turn fillPulses 46 _ _ _ _ (p .0) (p .1) (l .loop .inv .3)
 
 add-total : tie.Need-add-total Inv-loop μ-loop
 add-total c = omega (arith, counted c .few)

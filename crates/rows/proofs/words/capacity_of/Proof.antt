@@ -4,21 +4,22 @@ use Prim.Native.Nat.{ℕ, _+_, _≤_, _-_}
 use native.Mathlib.Omega.{arith}
 use Rattle.window.specs.Words.{pageWords}
 use Rattle.word.specs.Word.{legal}
+use Rattle.word.specs.Fill.{capacity}
 use Rattle.rows.specs.Page.{capacityAll}
 use Rattle.rows.proofs.Loaded.{FilledWord, loaded-lt, filled-word}
 use Rattle.rows.proofs.Scanning.{all-passed}
-use Rattle.rows.proofs.Measuring.{Measuring, measuring-start, measuring-turn}
+use Rattle.rows.proofs.Sums.{Summing, summing-start, summing-turn}
 use Rattle.rows.proofs.words.capacity_of.Statement.{statement}
 use Rattle.rows.proofs.words.capacity_of.Tie as tie
 
 abbrev Inv-loop : tie.InvT-loop
-Inv-loop page n total₀ i₀ total i = (i ≤ n) × Measuring page total i
+Inv-loop page n total₀ i₀ total i = (i ≤ n) × Summing capacity 23 page total i
 
 abbrev μ-loop : tie.MeasureT-loop
 μ-loop page n total₀ i₀ total i = n - i
 
 loop-holds : tie.Need-loop-holds Inv-loop μ-loop
-loop-holds c = (omega arith, measuring-start _)
+loop-holds c = (omega arith, summing-start capacity 23 _)
 
 load-word-requires : tie.Need-load-word-requires Inv-loop μ-loop
 load-word-requires c κs = omega arith
@@ -38,10 +39,13 @@ data-cells-requires : tie.Need-data-cells-requires Inv-loop μ-loop
 data-cells-requires c κs = (filled c .small, filled c .apart)
 
 counted : (c : tie.After-data-cells Inv-loop μ-loop) →
-    Measuring (c .before .before .before .before .before .before .args .page .now)
+    Summing capacity 23 (c .before .before .before .before .before .before .args .page .now)
     (c .before .before .before .before .loop .total + c .data-cells .result)
     (c .before .before .before .before .loop .i + 1)
-counted c = measuring-turn _ _ _ _ _ (filled (c .before)) (c .data-cells .ensures) (c .before .before .before .before .loop .inv .1)
+counted c =
+    let f = filled (c .before) in
+    let e = c .data-cells .ensures ∙ f .count in
+    summing-turn capacity 23 _ _ _ _ e (omega (arith, e, f .most)) (c .before .before .before .before .loop .inv .1)
 
 cast-total : tie.Need-cast-total Inv-loop μ-loop
 cast-total c = omega (arith, filled (c .before) .most, filled (c .before) .count, c .data-cells .ensures)

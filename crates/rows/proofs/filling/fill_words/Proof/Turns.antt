@@ -1,8 +1,7 @@
--- The words of a page filled one after another, and the pulses of it added up: what holds before word i, and a turn for it.
--- Assumes nothing.
+-- The words of a page filled one after another: what holds before word i, a turn for it, and the pulses of that. Assumes nothing.
 use mathlib.Core.Bool.{Bool, false}
 use mathlib.Core.List.{List}
-use mathlib.Core.Path.{_≡_, refl, sym, ap, ap₂, _∙_}
+use mathlib.Core.Path.{_≡_, sym, ap, ap₂, _∙_}
 use Prim.Native.Nat.{ℕ, _+_, _*_, _≤_}
 use native.Mathlib.Omega.{arith}
 use lib.ListN.{length}
@@ -14,14 +13,9 @@ use Rattle.word.specs.Fill.{fill, fillPulses}
 use Rattle.word.proofs.Filling.{length-fill}
 use Rattle.word.proofs.FreeCells.{cells-fill}
 use Rattle.word.proofs.Pulses.{fillPulses-le, filled-pulses}
-use Rattle.rows.specs.Page.{fillAll, pulsesAll}
-use Rattle.rows.proofs.SecondWords.{fillAll-more, pulsesAll-more, length-fillAll, Words-fillAll}
+use Rattle.rows.specs.Page.{fillAll}
+use Rattle.rows.proofs.SecondWords.{fillAll-more, length-fillAll, Words-fillAll}
 use Rattle.rows.proofs.Loaded.{loaded-cells}
-
--- `total` is the pulses of the words before word i
-pub record Pulsing (page₀ : List ℕ) (total i : ℕ) : Type 0 where
-  pub few : total ≤ 46 * i
-  pub sum : total ≡ pulsesAll (pageWords page₀ i)
 
 module _ (page₀ : List ℕ) where
   -- the words before word i, filled
@@ -42,9 +36,6 @@ module _ (page₀ : List ℕ) where
   unfolding fillAll pageWords pieces
   filling-start b = sym (putWords-none page₀ b)
 
-  pub pulsing-start : Pulsing page₀ 0 0
-  pulsing-start = record { few = omega arith; sum = unfold pulsesAll pageWords pieces in refl }
-
   module _ (page : List ℕ) (i : ℕ) (r : Filling page i) (h : start i + 46 ≤ 8 * length page₀) where
     -- word i is still as it was
     filling-word : wordAt page i ≡ wordAt page₀ i
@@ -52,17 +43,7 @@ module _ (page₀ : List ℕ) where
         ap (λ (p : List ℕ). wordAt p i) r
         ∙ wordAt-putWords page₀ (done i) i (Words-done i (omega arith)) (omega (arith, length-done i)) (omega (arith, length-done i))
 
-    -- w is word i, f that word filled, and p the pulses of it
-    pub pulsing-turn : (total w f p : ℕ) → w ≡ number (wordAt page i) → f ≡ number (fill (cells 46 w)) → p ≡ pulses (cells 46 w) (cells 46 f)
-        → Pulsing page₀ total i → Pulsing page₀ (total + p) (i + 1)
-    pulsing-turn total w f p ew ef ep m =
-        let v = wordAt page₀ i in
-        let e : p ≡ fillPulses v = ep ∙ filled-pulses w f ef ∙ ap fillPulses (loaded-cells page₀ i w h (ew ∙ ap number filling-word)) in
-        record {
-          few = omega (arith, m .few, e, fillPulses-le v, length-wordAt page₀ i h);
-          sum = omega (arith, m .sum, e, pulsesAll-more (pageWords page₀ i) v, ap pulsesAll (pageWords-more page₀ i));
-        }
-
+    -- w is word i, and f is that word filled
     pub filling-turn : (w f : ℕ) (next : List ℕ) → w ≡ number (wordAt page i) → f ≡ number (fill (cells 46 w)) → next ≡ putWord page i (cells 46 f)
         → Filling next (i + 1)
     filling-turn w f next ew ef en =
@@ -74,3 +55,11 @@ module _ (page₀ : List ℕ) where
         ∙ ap (λ (k : ℕ). putWord (putWords page₀ (done i)) k (fill v)) (sym ld)
         ∙ putWords-more page₀ (done i) (fill v) (Words-done i (omega arith)) e46 (omega (arith, ld))
         ∙ ap (putWords page₀) (sym (ap fillAll (pageWords-more page₀ i) ∙ fillAll-more (pageWords page₀ i) v))
+
+    -- ... and p the pulses of that
+    pub pulses-turn : (w f p : ℕ) → w ≡ number (wordAt page i) → f ≡ number (fill (cells 46 w)) → p ≡ pulses (cells 46 w) (cells 46 f)
+        → (p ≡ fillPulses (wordAt page₀ i)) × (p ≤ 46)
+    pulses-turn w f p ew ef ep =
+        let v = wordAt page₀ i in
+        let e : p ≡ fillPulses v = ep ∙ filled-pulses w f ef ∙ ap fillPulses (loaded-cells page₀ i w h (ew ∙ ap number filling-word)) in
+        (e, omega (arith, e, fillPulses-le v, length-wordAt page₀ i h))
