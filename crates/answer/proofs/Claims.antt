@@ -13,5 +13,5 @@ first-refusal-given = record {
   refused-leaves = refused-leaves;
 }
 
-pub taken-apart-again : TakenApart
-taken-apart-again = record { one = taken-apart; two = parts-apart }
+pub packed-apart : TakenApart
+packed-apart = record { one = taken-apart; two = parts-apart }
