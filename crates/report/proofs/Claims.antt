@@ -11,6 +11,7 @@ use lib.Dec.{T, ltb}
 use lib.ListN.{length, replicate}
 use Rattle.cells.specs.Cells.{first, number, bit, cells}
 use Rattle.cells.specs.Bytes.{bits, Bytes}
+use Rattle.text.specs.Text.{ascii, digits, decimal}
 use Rattle.answer.specs.Answer.{Answer, result, refusal, among}
 use Rattle.answer.proofs.Chains.{last-passed, same-refusal, among-others}
 use Rattle.window.specs.Words.{pageWords}
@@ -28,23 +29,22 @@ use Rattle.demands.proofs.Demands.{demand1, demand3}
 use Rattle.demands.proofs.FirstPages.{first-written, words-written}
 use Rattle.demands.proofs.Laid.{sound256}
 use Rattle.report.specs.Kinds.{kindBy, kindOf}
-use Rattle.report.specs.Lines.{ascii, digits, decimal, lineOf}
-use Rattle.report.specs.Listing.{listingOf}
+use Rattle.report.specs.Lines.{lineOf}
+use Rattle.report.specs.Listing.{piecesOf, linesFrom, listingOf}
 use Rattle.report.specs.Claims.{KindsExact, LinesRight, ListingRight}
 use Rattle.report.proofs.Deciding.{kind-not-sized, kind-00, kind-01, kind-03, kind-07, kind-unknown, WhyBad, not-sized, not-blank, unknown, open-bad, second-bad, blank-or-bad, kind-why, second-fits, bad-among}
-use Rattle.report.proofs.Decimals.{decimal-value, decimal-digit, decimal-first}
-use Rattle.report.proofs.Listings.{listing-none, listing-page, listing-last, listing-most, turns-listing}
+use Rattle.report.proofs.Listings.{pieces-none, pieces-most, listing-page, listing-last, turns-listing}
 use Rattle.report.specs.declared.Kind.{Kind}
 use Rattle.report.specs.declared.Kind.the-variants.{Blank, First, Filled, Second, Bad}
 
 -- ---- kinds
 
 -- the blank page
-blank-sized : Sized blank
+pub blank-sized : Sized blank
 unfolding blankOf
 blank-sized = refl
 
-blank-kind : kindOf blank ≡ Blank
+pub blank-kind : kindOf blank ≡ Blank
 unfolding blankOf
 blank-kind = kind-00 blank blank-sized refl ∙ ⊎-elim (λ h. h .1) (λ h. absurd (h .0 refl)) (blank-or-bad blank)
 
@@ -176,11 +176,11 @@ kinds-exact = record {
 abbrev zeroRecord : List ℕ
 zeroRecord = replicate 176 0
 
-abbrev zeroPage : List ℕ
+abbrev pub zeroPage : List ℕ
 zeroPage = firstPage page256 blank zeroRecord
 
 -- it is a first-round page, and its words are those of the record
-zero-first : FirstRound zeroPage
+pub zero-first : FirstRound zeroPage
 zero-first = first-written sound256 refl zeroRecord
 
 zero-words : pageWords zeroPage 44 ≡ firstWords 44 zeroRecord
@@ -192,7 +192,7 @@ unfolding sumOver capacity read readFrom fill fillFrom firstWords zeckendorf wei
 zero-capacity = refl
 
 -- so its kind has 1012
-zero-kind : kindOf zeroPage ≡ First 1012
+pub zero-kind : kindOf zeroPage ≡ First 1012
 zero-kind =
     let c : 1012 ≡ dataCells zeroPage = sym (ap capacityAll zero-words ∙ zero-capacity) ∙ demand3 .capacity-is zeroPage zero-first in
     first-page zeroPage 1012 (zero-first .of-bytes) .1 (zero-first, c)
@@ -203,24 +203,24 @@ unfolding lineOf decimal digits
 two-lines = rw (blank-kind, zero-kind) refl
 
 example : listingOf (blank ++ zeroPage) ≡ ascii "0 blank 0\n1 first 1012\n"
-unfolding listingOf
+unfolding listingOf piecesOf
 example =
     listing-page _ 0 blank zeroPage blank-sized
     ∙ ap (λ (s : List ℕ). lineOf 0 (kindOf blank) ++ s) (listing-last _ 1 zeroPage (omega (arith, zero-first .sized)) (omega (arith, zero-first .sized)))
     ∙ two-lines
 
 pub lines-right : LinesRight
-lines-right = record { value = decimal-value; digit = decimal-digit; no-zero-first = decimal-first; example = example }
+lines-right = record { example = example }
 
 -- ---- the listing
 
 pub listing-right : ListingRight
-unfolding listingOf
+unfolding listingOf piecesOf linesFrom
 listing-right = record {
   page = listing-page;
   last-piece = λ k index l some short. listing-last k index l some (omega arith) ∙ ap (lineOf index) (kind-not-sized l (omega arith));
-  empty = listing-none _ 0;
-  most = λ n l h. listing-most _ 0 n l (omega arith);
+  empty = ap (linesFrom 0) (pieces-none _);
+  most = λ n l h. ap (linesFrom 0) (pieces-most _ n l (omega arith));
   turns = λ k buffer l h. turns-listing (λ _. true) 4095 (omega arith) (λ i b. refl) (inl refl) 4096 k 0 buffer l h refl;
   unwritten = λ w j k buffer l m h yes no. turns-listing w j (omega arith) yes (inr no) (suc j) k 0 buffer l (omega arith) (omega arith);
 }

@@ -5,10 +5,11 @@ use mathlib.Core.Bool.{Bool, true, false}
 use mathlib.Core.List.{List, [], _∷_, _++_}
 use mathlib.Core.Logic.{_↔_}
 use mathlib.Core.Path.{_≡_}
-use Prim.Native.Nat.{ℕ, suc, _+_, _*_, _-_, _≤_, _<_}
+use Prim.Native.Nat.{ℕ, suc, _*_, _≤_, _<_}
 use lib.Dec.{T}
-use lib.ListN.{length, take, getD, replicate}
+use lib.ListN.{length, take, replicate}
 use Rattle.cells.specs.Bytes.{Bytes}
+use Rattle.text.specs.Text.{ascii}
 use Rattle.answer.specs.Answer.{refusal, among}
 use Rattle.rows.specs.Page.{page256, state, byte1, firstPage}
 use Rattle.page.specs.Answer.{readFirstAnswer}
@@ -16,7 +17,7 @@ use Rattle.filled.specs.Answer.{pageCapacityAnswer}
 use Rattle.second.specs.Answer.{readSecondAnswer}
 use Rattle.demands.specs.Demands.{blank, Sized, FirstRound, Filled as FilledPage, SecondRound, dataCells, filledCells}
 use Rattle.report.specs.Kinds.{kindOf}
-use Rattle.report.specs.Lines.{ascii, decimal, lineOf}
+use Rattle.report.specs.Lines.{lineOf}
 use Rattle.report.specs.Listing.{listingFrom, listingOf, firstTurn, turnsFrom}
 use Rattle.report.specs.declared.Kind.the-variants.{Blank, First, Filled, Second, Bad}
 
@@ -42,16 +43,7 @@ pub record KindsExact : Type 0 where
       → (kindOf P ≡ Bad n) ↔ ((i : ℕ) × (readSecondAnswer P out ≡ refusal n i))
   pub bad-numbers : (P : List ℕ) (n : ℕ) → kindOf P ≡ Bad n → T (among n (1 ∷ 4 ∷ 5 ∷ 6 ∷ 7 ∷ 9 ∷ []))
 
--- the number that decimal digits write, after a number in front
-unfoldable pub decimalValue : ℕ → List ℕ → ℕ
-decimalValue front [] = front
-decimalValue front (d ∷ ds) = decimalValue (front * 10 + (d - 48)) ds
-
 pub record LinesRight : Type 0 where
-  -- the digits write the number; each is one of `0` to `9`; only the number 0 begins with `0`
-  pub value : (n : ℕ) → decimalValue 0 (decimal n) ≡ n
-  pub digit : (n i : ℕ) → i < length (decimal n) → (48 ≤ getD (decimal n) i 0) × (getD (decimal n) i 0 < 58)
-  pub no-zero-first : (n : ℕ) → 0 < n → ¬ (getD (decimal n) 0 0 ≡ 48)
   -- "For a blank page followed by a page made from 176 zero bytes the whole output is"
   pub example : listingOf (blank ++ firstPage page256 blank (replicate 176 0)) ≡ ascii "0 blank 0\n1 first 1012\n"
 

@@ -11,16 +11,27 @@ use Rattle.report.specs.Lines.{lineOf}
 use Rattle.report.specs.declared.Turn.{Turn}
 use Rattle.report.specs.declared.Turn.the-variants.{Page, End}
 
--- "It reads standard input as pages, one after another": so many pages at most, from an index on. "For each page it prints one line." A last
--- piece may be shorter than a page; "Empty input prints nothing"
-unfoldable pub listingFrom : ℕ → ℕ → List ℕ → List ℕ
-listingFrom zero index l = []
-listingFrom (suc k) index [] = []
-listingFrom (suc k) index (b ∷ l) = lineOf index (kindOf (take 256 (b ∷ l))) ++ listingFrom k (suc index) (drop 256 (b ∷ l))
+-- "It reads standard input as pages, one after another": so many at most. A last piece may be shorter than a page
+unfoldable pub piecesFrom : ℕ → List ℕ → List (List ℕ)
+piecesFrom zero l = []
+piecesFrom (suc k) [] = []
+piecesFrom (suc k) (b ∷ l) = take 256 (b ∷ l) ∷ piecesFrom k (drop 256 (b ∷ l))
 
--- the whole output: "page index from 0"; it "stops after 4,096 pages"
+-- it "stops after 4,096 pages"
+unfoldable pub piecesOf : List ℕ → List (List ℕ)
+piecesOf l = piecesFrom 4096 l
+
+-- "For each page it prints one line", from an index on
+unfoldable pub linesFrom : ℕ → List (List ℕ) → List ℕ
+linesFrom index [] = []
+linesFrom index (piece ∷ ps) = lineOf index (kindOf piece) ++ linesFrom (suc index) ps
+
+abbrev pub listingFrom : ℕ → ℕ → List ℕ → List ℕ
+listingFrom k index l = linesFrom index (piecesFrom k l)
+
+-- the whole output: "page index from 0"
 unfoldable pub listingOf : List ℕ → List ℕ
-listingOf l = listingFrom 4096 0 l
+listingOf l = linesFrom 0 (piecesOf l)
 
 -- ---- turns
 

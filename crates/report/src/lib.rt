@@ -7,6 +7,7 @@ pub use kinds::kind_of;
 pub use lines::put_line;
 pub use turns::first_turn;
 pub use turns::next_turn;
+pub use turns::piece_of;
 pub use turns::put_turn;
 
 // The kind of a piece: a blank page, a first-round page or a filled page with its capacity in bits, a second-round page with its record's

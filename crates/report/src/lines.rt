@@ -1,41 +1,16 @@
 // The line of a page. The parts are put one after another into a buffer of 32 bytes; the longest line has 29.
 use crate::Kind;
+use text::put_decimal;
+use text::put_text;
 ghost use mathlib.Core.Path.{_≡_};
 ghost use Prim.Native.Nat.{_+_, _≤_};
 ghost use lib.ListN.{length};
 ghost use lib.Seq.{sets};
-ghost use Rattle.report.specs.Lines.{decimal, middleOf, numberOf, lineOf};
-
-// Puts a text into a line from byte `at` on, and returns the place after it.
-fn put_text(line: &mut [u8; 32], at: usize, text: &[u8]) -> usize
-    requires { ⌜ at + length (now text) ≤ 32 ⌝ }
-    ensures place { λ r. ⌜ r ≡ at + length (now (text .entry)) ⌝ }
-    ensures bytes { λ _. ⌜ now (line .exit) ≡ sets (now (line .entry)) at (now (text .entry)) ⌝ }
-{
-    for i in 0..text.len() {
-        line[at + i] = text[i];
-    }
-    at + text.len()
-}
-
-// Puts a number in decimal into a line from byte `at` on, and returns the place after it.
-fn put_decimal(line: &mut [u8; 32], at: usize, n: u32) -> usize
-    requires { ⌜ at + length (decimal n) ≤ 32 ⌝ }
-    ensures place { λ r. ⌜ r ≡ at + length (decimal n) ⌝ }
-    ensures bytes { λ _. ⌜ now (line .exit) ≡ sets (now (line .entry)) at (decimal n) ⌝ }
-{
-    if n < 10 {
-        line[at] = (48 + n) as u8;
-        return at + 1;
-    }
-    let end = put_decimal(line, at, n / 10);
-    line[end] = (48 + n % 10) as u8;
-    end + 1
-}
+ghost use Rattle.report.specs.Lines.{middleOf, numberOf, lineOf};
 
 // Puts the kind between its two spaces into a line from byte `at` on, and returns the place after it.
-fn put_middle(line: &mut [u8; 32], at: usize, kind: Kind) -> usize
-    requires { ⌜ at + 8 ≤ 32 ⌝ }
+fn put_middle(line: &mut [u8], at: usize, kind: Kind) -> usize
+    requires { ⌜ at + 8 ≤ length (now line) ⌝ }
     ensures place { λ r. ⌜ r ≡ at + length (middleOf kind) ⌝ }
     ensures bytes { λ _. ⌜ now (line .exit) ≡ sets (now (line .entry)) at (middleOf kind) ⌝ }
 {
@@ -67,8 +42,8 @@ pub fn put_line(index: u32, kind: Kind, line: &mut [u8; 32]) -> usize
     ensures fits { λ r. ⌜ r ≤ 32 ⌝ }
     ensures bytes { λ _. ⌜ now (line .exit) ≡ sets (now (line .entry)) 0 (lineOf index kind) ⌝ }
 {
-    let middle = put_decimal(line, 0, index);
+    let middle = put_decimal(line, 0, index as u64);
     let number = put_middle(line, middle, kind);
-    let end = put_decimal(line, number, number_of(kind));
+    let end = put_decimal(line, number, number_of(kind) as u64);
     put_text(line, end, b"\n")
 }

@@ -9,7 +9,7 @@ ghost use lib.Seq.{sets};
 ghost use Rattle.report.specs.Listing.{turnLine, firstTurn, nextTurn};
 
 // The first n bytes of a buffer: all of them where it has no more.
-fn piece_of(page: &[u8], n: usize) -> &[u8]
+pub fn piece_of(page: &[u8], n: usize) -> &[u8]
     ensures { λ r. ⌜ now r ≡ take n (now (page .entry)) ⌝ }
 {
     if n < page.len() {

@@ -7,7 +7,7 @@ use borrow.Author.Needs.{needs}
 use lib.ListN.{length, take, replicate}
 use lib.Seq.{length-sets, length-take-le}
 use Rattle.report.specs.Listing.{turnLine}
-use Rattle.report.proofs.Storing.{sets-taken}
+use Rattle.text.proofs.Storing.{sets-taken}
 use Rattle.listing.proofs.list_page.Statement.{statement}
 use Rattle.listing.proofs.list_page.Tie as tie
 

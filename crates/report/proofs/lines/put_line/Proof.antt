@@ -7,9 +7,10 @@ use borrow.Author.Needs.{needs}
 use lib.ListN.{length}
 use Rattle.report.specs.declared.Kind.{Kind}
 use Rattle.report.specs.declared.Kind.the-variants.{Blank, First, Filled, Second, Bad}
-use Rattle.report.specs.Lines.{ascii, decimal, middleOf, numberOf, lineOf}
-use Rattle.report.proofs.Decimals.{decimal-32}
-use Rattle.report.proofs.Storing.{Put, put-put}
+use Rattle.report.specs.Lines.{middleOf, numberOf, lineOf}
+use Rattle.text.specs.Text.{ascii, decimal}
+use Rattle.text.proofs.Decimals.{decimal-32}
+use Rattle.text.proofs.Storing.{Put, put-put}
 use Rattle.report.proofs.lines.put_line.Statement.{statement}
 use Rattle.report.proofs.lines.put_line.Tie as tie
 
@@ -32,6 +33,9 @@ put-middle-requires c κs = omega (arith, c .before .put-decimal .ensures .0, in
 
 number-of-requires : tie.Need-number-of-requires
 number-of-requires c κs = search needs
+
+cast-put-decimal : tie.Need-cast-put-decimal
+cast-put-decimal c = record { fits = omega (arith, c .number-of .ok) }
 
 put-decimal-requires-2 : tie.Need-put-decimal-requires-2
 put-decimal-requires-2 c κs =
@@ -93,6 +97,7 @@ put-line-spec =
     put-decimal-requires
     put-middle-requires
     number-of-requires
+    cast-put-decimal
     put-decimal-requires-2
     slice-aggregate-put-text
     put-text-requires

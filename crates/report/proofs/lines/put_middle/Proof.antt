@@ -61,30 +61,55 @@ slice-aggregate-put-text-5 c = search needs
 put-text-requires-5 : tie.Need-put-text-requires-5
 put-text-requires-5 c κs = search needs
 
+same-length : tie.Need-same-length
+same-length c = search needs
+
 returns : tie.Need-returns
 returns c =
-    let a = c .before .before .before .before .before .args in
-    named (a .line .now) (a .at) (c .put-text .result) (c .put-text .last .0) (c .before .before .before .enum-told .given .1) (c .put-text .ensures)
+    let p = c .before .before in
+    let told = p .before .before .before in
+    let a = told .before .before .before .args in
+    named (a .line .now) (a .at) (p .put-text .result) (p .put-text .last .0) (told .enum-told .given .1) (p .put-text .ensures)
+
+same-length-2 : tie.Need-same-length-2
+same-length-2 c = search needs
 
 returns-2 : tie.Need-returns-2
 returns-2 c =
-    let a = c .before .before .before .before .before .args in
-    named (a .line .now) (a .at) (c .put-text2 .result) (c .put-text2 .last .0) (c .before .before .before .enum-told2 .given .1) (c .put-text2 .ensures)
+    let p = c .before .before in
+    let told = p .before .before .before in
+    let a = told .before .before .before .args in
+    named (a .line .now) (a .at) (p .put-text2 .result) (p .put-text2 .last .0) (told .enum-told2 .given .1) (p .put-text2 .ensures)
+
+same-length-3 : tie.Need-same-length-3
+same-length-3 c = search needs
 
 returns-3 : tie.Need-returns-3
 returns-3 c =
-    let a = c .before .before .before .before .before .args in
-    named (a .line .now) (a .at) (c .put-text3 .result) (c .put-text3 .last .0) (c .before .before .before .enum-told3 .given .1) (c .put-text3 .ensures)
+    let p = c .before .before in
+    let told = p .before .before .before in
+    let a = told .before .before .before .args in
+    named (a .line .now) (a .at) (p .put-text3 .result) (p .put-text3 .last .0) (told .enum-told3 .given .1) (p .put-text3 .ensures)
+
+same-length-4 : tie.Need-same-length-4
+same-length-4 c = search needs
 
 returns-4 : tie.Need-returns-4
 returns-4 c =
-    let a = c .before .before .before .before .before .args in
-    named (a .line .now) (a .at) (c .put-text4 .result) (c .put-text4 .last .0) (c .before .before .before .enum-told4 .given .1) (c .put-text4 .ensures)
+    let p = c .before .before in
+    let told = p .before .before .before in
+    let a = told .before .before .before .args in
+    named (a .line .now) (a .at) (p .put-text4 .result) (p .put-text4 .last .0) (told .enum-told4 .given .1) (p .put-text4 .ensures)
+
+same-length-5 : tie.Need-same-length-5
+same-length-5 c = search needs
 
 returns-5 : tie.Need-returns-5
 returns-5 c =
-    let a = c .before .before .before .before .before .args in
-    named (a .line .now) (a .at) (c .put-text5 .result) (c .put-text5 .last .0) (c .before .before .before .enum-told5 .given .1) (c .put-text5 .ensures)
+    let p = c .before .before in
+    let told = p .before .before .before in
+    let a = told .before .before .before .args in
+    named (a .line .now) (a .at) (p .put-text5 .result) (p .put-text5 .last .0) (told .enum-told5 .given .1) (p .put-text5 .ensures)
 
 pub put-middle-spec : {M : Type 1} → statement M
 put-middle-spec =
@@ -105,8 +130,13 @@ put-middle-spec =
     enum-told-5
     slice-aggregate-put-text-5
     put-text-requires-5
+    same-length
     returns
+    same-length-2
     returns-2
+    same-length-3
     returns-3
+    same-length-4
     returns-4
+    same-length-5
     returns-5)

@@ -1,14 +1,14 @@
--- `lines::put_text` meets its contract: in the loop, the text's first i bytes are stored.
+-- `text::put_text` meets its contract: in the loop, the text's first i bytes are stored.
 -- Assumes nothing.
 use mathlib.Core.List.{List}
 use mathlib.Core.Path.{_≡_, refl, ap, _∙_}
 use Prim.Native.Nat.{ℕ, _+_, _-_, _≤_}
 use native.Mathlib.Omega.{arith}
 use lib.ListN.{length, take, set, getD}
-use lib.Seq.{sets, take-length}
+use lib.Seq.{sets, length-sets, take-length}
 use Rattle.cells.proofs.Storing.{sets-turn}
-use Rattle.report.proofs.lines.put_text.Statement.{statement}
-use Rattle.report.proofs.lines.put_text.Tie as tie
+use Rattle.text.proofs.put_text.Statement.{statement}
+use Rattle.text.proofs.put_text.Tie as tie
 
 abbrev Inv-loop : tie.InvT-loop
 Inv-loop line₀ at text i₀ i-end line i = (line ≡ sets line₀ at (take i text)) × (i ≤ i-end)
@@ -25,8 +25,11 @@ shared-slice-read-line c = omega arith
 add-line : tie.Need-add-line Inv-loop μ-loop
 add-line c = omega arith
 
-element-write-line : tie.Need-element-write-line Inv-loop μ-loop
-element-write-line c = omega arith
+slice-write-line : tie.Need-slice-write-line Inv-loop μ-loop
+slice-write-line c =
+    let l = c .before .before .loop in
+    let a = c .before .before .before .args in
+    omega (arith, ap length (l .inv .0), length-sets (a .line .now) (a .at) (take (l .i) (a .text .now)))
 
 add-i : tie.Need-add-i Inv-loop μ-loop
 add-i c = omega arith
@@ -42,6 +45,12 @@ loop-again c =
 
 add-result : tie.Need-add-result Inv-loop μ-loop
 add-result c = omega arith
+
+same-length : tie.Need-same-length Inv-loop μ-loop
+same-length c =
+    let a = c .before .before .args in
+    let l = c .before .loop in
+    ap length (l .inv .0) ∙ length-sets (a .line .now) (a .at) (take (l .i) (a .text .now))
 
 returns : tie.Need-returns Inv-loop μ-loop
 returns c =
@@ -59,9 +68,10 @@ put-text-spec =
     loop-holds
     shared-slice-read-line
     add-line
-    element-write-line
+    slice-write-line
     add-i
     loop-less
     loop-again
     add-result
+    same-length
     returns)

@@ -8,11 +8,14 @@ use native.Mathlib.Nat.{pow-suc}
 use native.Mathlib.Omega.{arith}
 use borrow.Author.Tests.{ltb-true, ltb-false, lt-ltb, le-ltb}
 use lib.Dec.{ltb}
+use lib.IntN.{ℤ, pos, negsuc}
 use lib.ListN.{length, getD, length-append, List·getD-append}
 use lib.Seq.{getD-at}
+use mir.Syntax.{w64}
+use mir.Val.{SFits}
 use Rattle.cells.proofs.Tests.{lt-cases}
-use Rattle.report.specs.Lines.{digits, decimal}
-use Rattle.report.specs.Claims.{decimalValue}
+use Rattle.text.specs.Text.{ascii, digits, decimal, signed}
+use Rattle.text.specs.Claims.{decimalValue}
 
 -- a number below 10 is its digit
 digits-below : (k n : ℕ) → n < 10 → digits k n ≡ (48 + n) ∷ []
@@ -61,6 +64,12 @@ decimal-short (suc k) n h = go (ltb n 10) refl (decimal-short k (n / 10))
 -- a number of 32 bits has at most 10 digits
 pub decimal-32 : (n : ℕ) → n < 2 ^ 32 → length (decimal n) ≤ 10
 decimal-32 n h = decimal-short 9 n (omega (arith, h))
+
+-- a signed number of 64 bits has at most 19, and a minus
+pub signed-64 : (z : ℤ) → SFits w64 z → length (signed z) ≤ 20
+unfolding signed
+signed-64 (pos n) f = let h = decimal-short 18 n (omega (arith, f .sfits)) in omega arith
+signed-64 (negsuc n) f = let h = decimal-short 18 (suc n) (omega (arith, f .sfits)) in omega (arith, length-append (ascii "-") (decimal (suc n)))
 
 -- ---- what the digits write
 
@@ -111,7 +120,7 @@ decimal-digit =
     (λ n h r. rw (decimal-from n h) (digits-snoc (decimal (n / 10)) (48 + n % 10) r (omega arith)))
 
 -- at least one digit
-decimal-some : (n : ℕ) → 0 < length (decimal n)
+pub decimal-some : (n : ℕ) → 0 < length (decimal n)
 decimal-some =
     by-tenths (λ n. 0 < length (decimal n)) (λ n h. rw (decimal-below n h) omega arith) (λ n h r. omega (arith, decimal-longer n h))
 

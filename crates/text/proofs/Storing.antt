@@ -4,7 +4,7 @@ use mathlib.Core.Path.{_≡_, sym, ap, ap₂, _∙_}
 use Prim.Native.Nat.{ℕ, _+_, _≤_}
 use native.Mathlib.Omega.{arith}
 use lib.ListN.{length, take, drop, length-append}
-use lib.Seq.{sets, take-at}
+use lib.Seq.{sets, length-sets, take-at}
 use Rattle.cells.specs.Bytes.{atStart}
 use Rattle.cells.proofs.Storing.{sets-append, sets-atStart}
 
@@ -24,3 +24,7 @@ put-put {old} {at = at} {a = a} {b = b} p q = record {
   place = omega (arith, p .place, q .place, length-append a b);
   bytes = q .bytes ∙ ap₂ (λ (l : List ℕ) (k : ℕ). sets l k b) (p .bytes) (p .place) ∙ sets-append old at a b;
 }
+
+-- a line keeps its length
+pub put-length : {old new : List ℕ} {at r : ℕ} {text : List ℕ} → Put old at text r new → length new ≡ length old
+put-length {old} {at = at} {text = text} p = ap length (p .bytes) ∙ length-sets old at text

@@ -1,0 +1,4 @@
+-- The laws of the gain sheet.
+pub mod Sums
+pub mod Tallying
+pub mod Claims
