@@ -1,9 +1,9 @@
--- A turn of a listing: its line, and the turn after it. Assumes nothing.
+-- A turn of a listing: its line, the turn after it, and how many are left. Assumes nothing.
 use mathlib.Core.Bool.{Bool, true, false, _&&_}
 use mathlib.Core.List.{List, [], _∷_}
-use mathlib.Core.Logic.{_⊎_, inl, inr}
-use mathlib.Core.Path.{_≡_, refl}
-use Prim.Native.Nat.{ℕ, _+_, _≤_, _<_}
+use mathlib.Core.Logic.{_⊎_, inl, inr, ⊎-elim}
+use mathlib.Core.Path.{_≡_, refl, ap, _∙_}
+use Prim.Native.Nat.{ℕ, suc, _+_, _-_, _≤_, _<_}
 use native.Mathlib.Omega.{arith}
 use borrow.Author.Tests.{ltb-true, eq-eqb, ne-eqb, lt-ltb, le-ltb}
 use lib.Dec.{eqb, ltb}
@@ -11,6 +11,7 @@ use lib.ListN.{length}
 use Rattle.report.specs.Kinds.{kindOf}
 use Rattle.report.specs.Lines.{lineOf}
 use Rattle.report.specs.Listing.{turnLine, nextTurn}
+use Rattle.report.specs.declared.Turn.{Turn}
 use Rattle.report.specs.declared.Turn.the-variants.{Page, End}
 
 module _ (index : ℕ) where
@@ -60,3 +61,17 @@ module _ (index : ℕ) where
       go false e b f = inl (rw e refl)
       go true e false f = inl (rw e rw f refl)
       go true e true f = let h = ltb-true (index + 1) 4096 f in inr (rw e rw f refl, omega arith)
+
+-- ---- how many are left
+
+-- at most, in a turn
+abbrev pub turns-left : Turn → ℕ
+turns-left (Page index) = suc (4095 - index)
+turns-left End = 0
+
+-- a turn takes one of them
+pub one-less : (index n : ℕ) (w : Bool) {t u : Turn} → t ≡ Page index → u ≡ nextTurn index n w → turns-left u < turns-left t
+one-less index n w {t} {u} p e =
+    let was : turns-left t ≡ suc (4095 - index) = ap turns-left p in
+    ⊎-elim (λ h. let is : turns-left u ≡ 0 = ap turns-left (e ∙ h) in omega arith)
+    (λ h. let is : turns-left u ≡ suc (4095 - (index + 1)) = ap turns-left (e ∙ h .0) in omega (arith, h .1)) (next-cases index n w)

@@ -29,12 +29,22 @@ unfolding tallyFrom
 tally-append t [] piece = refl
 tally-append t (p ∷ ps) piece = tally-append (tallied t (kindOf p)) ps piece
 
-pub tallies-more : {most : ℕ} {t : Tally} (piece : List ℕ) → Tallies most t → Tallies (suc most) (tallied t (kindOf piece))
+tallies-more : {most : ℕ} {t : Tally} (piece : List ℕ) → Tallies most t → Tallies (suc most) (tallied t (kindOf piece))
 tallies-more piece h = record {
   pieces = h .pieces ++ piece ∷ [];
   few = omega (arith, length-append (h .pieces) (piece ∷ []), h .few);
   all = ap (λ (t : Tally). tallied t (kindOf piece)) (h .all) ∙ sym (tally-append noPages (h .pieces) piece);
 }
+
+-- what is a tally of so many is one of more
+pub tallies-wider : {most more : ℕ} {t : Tally} → most ≤ more → Tallies most t → Tallies more t
+tallies-wider h p = record { pieces = p .pieces; few = omega (arith, h, p .few); all = p .all }
+
+-- after a turn
+pub tallies-turn : {most : ℕ} {t : Tally} (piece : List ℕ) → Tallies most t → Tallies (suc most) (turnTally t piece)
+unfolding turnTally
+tallies-turn [] p = tallies-wider (omega arith) p
+tallies-turn (b ∷ l) p = tallies-more (b ∷ l) p
 
 -- ---- the counts
 

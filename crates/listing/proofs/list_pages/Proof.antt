@@ -10,27 +10,15 @@ use lib.ListN.{length}
 use Rattle.report.specs.Listing.{nextTurn}
 use Rattle.report.specs.declared.Turn.{Turn}
 use Rattle.report.specs.declared.Turn.the-variants.{Page, End}
-use Rattle.report.proofs.Turning.{next-cases}
+use Rattle.report.proofs.Turning.{turns-left, one-less}
 use Rattle.listing.proofs.list_pages.Statement.{statement}
 use Rattle.listing.proofs.list_pages.Tie as tie
-
--- the turns that are left, at most
-abbrev left : Turn → ℕ
-left (Page index) = suc (4095 - index)
-left End = 0
-
--- a turn takes one of them
-less : (index n : ℕ) (w : Bool) {t u : Turn} → t ≡ Page index → u ≡ nextTurn index n w → left u < left t
-less index n w {t} {u} p e =
-    let was : left t ≡ suc (4095 - index) = ap left p in
-    ⊎-elim (λ h. let is : left u ≡ 0 = ap left (e ∙ h) in omega arith)
-    (λ h. let is : left u ≡ suc (4095 - (index + 1)) = ap left (e ∙ h .0) in omega (arith, h .1)) (next-cases index n w)
 
 abbrev Inv-loop : tie.InvT-loop
 Inv-loop page₀ turn₀ page turn = length page ≡ length page₀
 
 abbrev μ-loop : tie.MeasureT-loop
-μ-loop page₀ turn₀ page turn = left turn
+μ-loop page₀ turn₀ page turn = turns-left turn
 
 loop-holds : tie.Need-loop-holds Inv-loop μ-loop
 loop-holds c = refl
@@ -47,7 +35,7 @@ list-page-requires c κs = search needs
 loop-less : tie.Need-loop-less Inv-loop μ-loop
 loop-less c =
     let known = c .before .before .before .before .before .before .before .turn .given in
-    less _ _ (c .list-page .ensures .0) (known .1) (c .list-page .ensures .1)
+    one-less _ _ (c .list-page .ensures .0) (known .1) (c .list-page .ensures .1)
 
 loop-again : tie.Need-loop-again Inv-loop μ-loop
 loop-again c =
