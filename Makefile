@@ -7,10 +7,11 @@ SECOND = CARGO_TARGET_DIR=target/second cargo run --quiet --release --offline --
 test:
 	.ci/run
 
-# A page's life in a logger, then the listing of the pages that it leaves, and the file that carries them away.
+# A page's life in a logger, then the listing and the gain sheet of the pages that it leaves, and the file that carries them away.
 demo: archive
-	@echo 'proving and compiling the listing program (target/listing.log)'
+	@echo 'proving and compiling the programs listing and gain (target/listing.log, target/gain.log)'
 	@rt check listing >target/listing.log 2>&1 || { cat target/listing.log; exit 1; }
+	@rt check gain >target/gain.log 2>&1 || { cat target/gain.log; exit 1; }
 	@mkdir -p target/demo
 	$(CC99) -o target/demo/logger examples/logger.c target/staticlib/libwom.a
 	$(CC99) -o target/demo/carry examples/carry.c target/staticlib/libwom.a
@@ -18,6 +19,8 @@ demo: archive
 	@target/demo/logger target/demo/pages.bin
 	@printf '\nThe listing of target/demo/pages.bin (target/bin/listing reads pages from its standard input):\n'
 	@target/bin/listing <target/demo/pages.bin
+	@printf '\nThe gain sheet of the same pages (target/bin/gain):\n'
+	@target/bin/gain <target/demo/pages.bin
 	@echo
 	@target/demo/carry 0x12345678 target/demo/pages.bin target/demo/lift.bin
 
@@ -58,10 +61,11 @@ CASES = 2000000
 differential: archive
 	$(SECOND) differential -- run $(SEED) $(CASES)
 
-# The files of the programs vectors and listing, made anew by the independent program.
+# The files of the programs vectors, listing and gain, made anew by the independent program.
 vectors:
 	$(SECOND) generate -- vectors crates/vectors
 	$(SECOND) generate -- listing crates/listing
+	$(SECOND) generate -- sheet crates/gain
 
 # The list of every claim's clauses, with which tests/run compares the claims.
 clauses:

@@ -4,12 +4,20 @@ use report::Kind;
 use report::kind_of;
 use report::piece_of;
 ghost use mathlib.Core.Path.{_≡_};
-ghost use Prim.Native.Nat.{_^_, _<_};
-ghost use lib.IntN.{natAbs};
+ghost use Prim.Native.Nat.{_*_, _^_, _<_};
+ghost use lib.IntN.{pos, natAbs};
 ghost use lib.ListN.{take};
 ghost use Rattle.sheet.specs.Sheet.{gainOf, noPages, counted, tallied, turnTally, Tallies};
 
-// The gain of a page by its kind, in bits. No record's length of 32 bits takes it far from 0.
+// The bits of a record.
+fn bits_of(length: u32) -> i64
+    ensures bits { λ r. ⌜ r ≡ pos (8 * length) ⌝ }
+    ensures near { λ r. ⌜ natAbs r < 2 ^ 35 ⌝ }
+{
+    8 * (length as i64)
+}
+
+// The gain of a page by its kind, in bits.
 fn gain_of(kind: Kind) -> i64
     ensures gain { λ r. ⌜ r ≡ gainOf kind ⌝ }
     ensures near { λ r. ⌜ natAbs r < 2 ^ 36 ⌝ }
@@ -18,7 +26,7 @@ fn gain_of(kind: Kind) -> i64
         Kind::Blank => 0,
         Kind::First(_) => -640,
         Kind::Filled(_) => -640,
-        Kind::Second(n) => -640 + 8 * (n as i64),
+        Kind::Second(length) => -640 + bits_of(length),
         Kind::Bad(_) => 0,
     }
 }

@@ -1,38 +1,93 @@
-//! The listing of document 01, with the kind of Change 2, as a function from bytes to text.
+//! The listing of document 01, with the kind of Change 2, as a function from bytes to text; and what the gain sheet goes
+//! by as well: the pieces of the input, and the kind and the number of each.
 
-use crate::answer::{number, Answer};
+use crate::answer::Answer;
 use crate::page::{self, BLANK, FILLED, FIRST_ROUND, PAGE_BYTES, SECOND_BYTES_MOST, SECOND_ROUND};
+use std::fmt::{self, Display, Formatter};
 
 /// "stops after 4,096 pages".
 pub const PAGES_MOST: usize = 4_096;
 
+/// What the listing calls a piece of the input.
+#[derive(Clone, Copy, Debug, PartialEq, Eq)]
+pub enum Kind {
+    Blank,
+    First,
+    Filled,
+    Second,
+    Bad,
+}
+
+impl Kind {
+    /// In the order of the gain sheet.
+    pub const ALL: [Kind; 5] = [Kind::Blank, Kind::First, Kind::Filled, Kind::Second, Kind::Bad];
+
+    pub fn name(self) -> &'static str {
+        match self {
+            Kind::Blank => "blank",
+            Kind::First => "first",
+            Kind::Filled => "filled",
+            Kind::Second => "second",
+            Kind::Bad => "bad",
+        }
+    }
+
+    /// The kind with this name.
+    pub fn named(name: &str) -> Option<Kind> {
+        Kind::ALL.into_iter().find(|kind| kind.name() == name)
+    }
+}
+
+/// What the listing says of a piece. The number is 0, the capacity in bits, the length in bytes, or that of a refusal.
+#[derive(Clone, Copy, Debug, PartialEq, Eq)]
+pub struct Described {
+    pub kind: Kind,
+    pub number: u64,
+}
+
+/// "the kind, a space, a number".
+impl Display for Described {
+    fn fmt(&self, formatter: &mut Formatter) -> fmt::Result {
+        write!(formatter, "{} {}", self.kind.name(), self.number)
+    }
+}
+
+/// "`bad` has a refusal number".
+fn bad(number: u8) -> Described {
+    Described { kind: Kind::Bad, number: u64::from(number) }
+}
+
 /// The kind and the number of one accepted page, or `bad` and the refusal's number.
-fn kind_and_number(kind: &str, answer: Answer) -> String {
+fn accepted(kind: Kind, answer: Answer) -> Described {
     match answer {
-        Ok(result) => format!("{kind} {result}"),
-        Err(_) => format!("bad {}", number(answer)),
+        Ok(number) => Described { kind, number },
+        Err(refusal) => bad(refusal.number),
     }
 }
 
 /// The kind and the number of one piece of the input.
-fn described(piece: &[u8]) -> String {
+pub fn described(piece: &[u8]) -> Described {
     if piece.len() < PAGE_BYTES {
-        return "bad 1".to_string();
+        return bad(1);
     }
     match piece[0] {
-        BLANK if piece.iter().all(|&byte| byte == 0) => "blank 0".to_string(),
-        BLANK => "bad 4".to_string(),
-        FIRST_ROUND => kind_and_number("first", page::page_capacity(piece)),
-        FILLED => kind_and_number("filled", page::page_capacity(piece)),
-        SECOND_ROUND => kind_and_number("second", page::read_second(piece, &mut [0; SECOND_BYTES_MOST])),
-        _ => "bad 5".to_string(),
+        BLANK if piece.iter().all(|&byte| byte == 0) => Described { kind: Kind::Blank, number: 0 },
+        BLANK => bad(4),
+        FIRST_ROUND => accepted(Kind::First, page::page_capacity(piece)),
+        FILLED => accepted(Kind::Filled, page::page_capacity(piece)),
+        SECOND_ROUND => accepted(Kind::Second, page::read_second(piece, &mut [0; SECOND_BYTES_MOST])),
+        _ => bad(5),
     }
+}
+
+/// The input "as pages, one after another", at most 4,096; the last piece may be shorter than a page.
+pub fn pieces(input: &[u8]) -> impl Iterator<Item = &[u8]> {
+    input.chunks(PAGE_BYTES).take(PAGES_MOST)
 }
 
 /// "For each page it prints one line: page index from 0, a space, the kind, a space, a number, a line feed."
 pub fn listing(input: &[u8]) -> String {
-    let pieces = input.chunks(PAGE_BYTES).take(PAGES_MOST).enumerate();
-    pieces.map(|(index, piece)| format!("{index} {}\n", described(piece))).collect()
+    pieces(input).enumerate().map(|(index, piece)| format!("{index} {}\n", described(piece))).collect()
 }
 
 #[cfg(test)]

@@ -1,24 +1,96 @@
-//! The fixed pages for the listing program.
+//! The fixed pages for the listing program and for the gain program, and pages of one kind.
 
 use crate::cases::pages::*;
 use crate::cases::words::{
-    any_value, illegal, sum_too_large, with_bare_hole, with_hole, with_neighbours, Hole, EDGE_VALUE, SPARSE_VALUE,
+    any_value, illegal, sum_too_large, value_with_pulses, with_bare_hole, with_hole, with_neighbours, Hole, EDGE_VALUE,
+    SPARSE_VALUE,
 };
-use crate::page::{data_cells_of, words_of, PAGE_BYTES, WORDS};
+use crate::listing::{described, Kind};
+use crate::page::{data_cells_of, words_of, PAGE_BYTES, SECOND_BYTES_MOST, WORDS};
 use crate::random::Random;
-use crate::word::{legal_word, Cells, CELLS};
+use crate::word::{legal_word, sum, Cells, CELLS};
 
-const SEED: u64 = 4_096;
+const LISTING_SEED: u64 = 4_096;
+const SHEET_SEED: u64 = 640;
+const ALIKE_SEED: u64 = 1_408;
 
 /// Pages of every kind and of every `bad` number, and a last piece of 255 bytes that lacks one byte of a valid page.
-pub fn pages() -> Vec<u8> {
-    let mut random = Random::new(SEED);
+pub fn listing_pages() -> Vec<u8> {
+    let mut random = Random::new(LISTING_SEED);
     let states = [0x02, 0x05, 0x09, 0xFF].map(|state| with_byte(any_first(&mut random), 0, state));
     let filled_states = [0x02, 0x13, 0x83].map(|state| with_byte(any_filled(&mut random), 0, state));
     let last = vec![any_filled(&mut random)[..PAGE_BYTES - 1].to_vec()];
     let kinds = [blanks, firsts, filleds, seconds, bad_firsts, bad_filleds, bad_seconds];
     let kinds = kinds.map(|kind| kind(&mut random));
     kinds.into_iter().chain([states.to_vec(), filled_states.to_vec(), last]).flatten().flatten().collect()
+}
+
+/// Pages of every kind in a mixed order, each kind in a number of its own, and a last piece of 255 bytes. That piece lacks
+/// the last byte, a 0, of a first-round page, and comes after a blank page: a buffer of 256 bytes, fresh or used before,
+/// would make a page of it.
+pub fn sheet_pages() -> Vec<u8> {
+    let mut random = Random::new(SHEET_SEED);
+    let kinds = [blanks, firsts, filleds, seconds, seconds_of_80, bad_firsts, bad_filleds, bad_seconds, unknown_states];
+    let pages = kinds.map(|kind| kind(&mut random)).concat();
+    let end = [blank(&mut random), first_page(&[0; WORDS])[..PAGE_BYTES - 1].to_vec()];
+    [mixed(&mut random, pages), end.to_vec()].concat().concat()
+}
+
+/// The pages in any order.
+fn mixed(random: &mut Random, mut pages: Vec<Vec<u8>>) -> Vec<Vec<u8>> {
+    for place in (1..pages.len()).rev() {
+        pages.swap(place, random.below(place + 1));
+    }
+    pages
+}
+
+/// Pages of one kind, which differ in what the kind leaves open. Second-round pages have the longest records.
+pub fn alike(kind: Kind, count: usize) -> impl Iterator<Item = Vec<u8>> {
+    let mut random = Random::new(ALIKE_SEED);
+    (0..count).map(move |_| page_of(&mut random, kind))
+}
+
+fn page_of(random: &mut Random, kind: Kind) -> Vec<u8> {
+    match kind {
+        Kind::Blank => blank(random),
+        Kind::First => any_first(random),
+        Kind::Filled => any_filled(random),
+        Kind::Second => longest_second(random),
+        Kind::Bad => any_bad(random),
+    }
+}
+
+/// A second-round page with a record of 126 bytes.
+fn longest_second(random: &mut Random) -> Vec<u8> {
+    let first = first_page(&roomy_values(random));
+    second_page(&first, &any_record(random, SECOND_BYTES_MOST))
+}
+
+/// The values of a first-round page that 126 bytes fit: its capacity is at most 4 below the most, 1,012.
+fn roomy_values(random: &mut Random) -> [u32; WORDS] {
+    let mut values = [(); WORDS].map(|()| even_value(random));
+    for _ in 0..random.between(0, 4) {
+        // Cell 45 is set and has no data cell, so the word's capacity is 22.
+        values[random.below(WORDS)] = value_with_pulses(random.between(0, 22));
+    }
+    values
+}
+
+/// A value of capacity 23: some even cells are set, and the fill sets the other ones. Without cell 0, every such sum is
+/// small enough.
+fn even_value(random: &mut Random) -> u32 {
+    let cells = std::array::from_fn(|cell| cell > 0 && cell % 2 == 0 && random.one_in(2));
+    sum(&cells) as u32
+}
+
+/// A page that the listing calls bad, for any reason.
+fn any_bad(random: &mut Random) -> Vec<u8> {
+    loop {
+        let page = any_page(random);
+        if described(&page).kind == Kind::Bad {
+            return page;
+        }
+    }
 }
 
 /// The blank page, and pages of state 00 with another byte set.
@@ -50,6 +122,20 @@ fn seconds(random: &mut Random) -> Vec<Vec<u8>> {
         .to_vec();
     seconds.push(with_byte(any_filled(random), 0, 0x07));
     seconds
+}
+
+/// Second-round pages with records of 80 bytes, over the most and the least capacity.
+fn seconds_of_80(random: &mut Random) -> Vec<Vec<u8>> {
+    [0, SPARSE_VALUE].map(|value| second_page(&first_page(&[value; WORDS]), &random.bytes(80))).to_vec()
+}
+
+/// Pages that are valid but for an unknown state.
+fn unknown_states(random: &mut Random) -> Vec<Vec<u8>> {
+    vec![
+        with_byte(any_first(random), 0, 0x02),
+        with_byte(any_filled(random), 0, 0x83),
+        with_byte(longest_second(random), 0, 0x0F),
+    ]
 }
 
 /// Pages of state 01 that are bad 6 and bad 7.
@@ -113,11 +199,13 @@ fn bad_seconds(random: &mut Random) -> Vec<Vec<u8>> {
 #[cfg(test)]
 mod tests {
     use super::*;
-    use crate::listing::listing;
+    use crate::listing::{listing, pieces, Described};
+    use crate::sheet::{gain, sheet};
+    use std::collections::HashSet;
 
     #[test]
     fn every_kind_and_every_bad_number() {
-        let text = listing(&pages());
+        let text = listing(&listing_pages());
         let met: Vec<&str> = text.lines().map(|line| line.split_once(' ').expect("an index and a kind").1).collect();
         for bad in [1, 4, 5, 6, 7, 9] {
             assert!(met.contains(&format!("bad {bad}").as_str()), "bad {bad}");
@@ -131,10 +219,111 @@ mod tests {
     /// In state 03 there are `filled` pages, and no other number of `bad` than 6 and 7.
     #[test]
     fn pages_of_state_03() {
-        let pages = pages();
+        let pages = listing_pages();
         let filled = pages.chunks(PAGE_BYTES).filter(|piece| piece.len() == PAGE_BYTES && piece[0] == 0x03);
         let kinds: Vec<String> = filled.map(|page| listing(page).trim_end().to_string()).collect();
         let count = |kind: &str| kinds.iter().filter(|met| met.starts_with(kind)).count();
         assert_eq!((kinds.len(), count("0 filled"), count("0 bad 6"), count("0 bad 7")), (24, 6, 6, 12));
+    }
+
+    /// The gain of the sheet's pages: of 4 first-round and 6 filled pages and 3 records of no byte, and of records of 1,
+    /// 82, 126 and twice 80 bytes.
+    const GAIN: i64 = 13 * -640 - 632 + 16 + 368;
+
+    /// The five counts are different from each other and from 0, and the gain is below 0.
+    #[test]
+    fn the_sheet_of_the_pages() {
+        assert_eq!(sheet(&sheet_pages()), "pages 60 blank 2 first 4 filled 6 second 8 bad 40 gain -8568\n");
+        assert_eq!(GAIN, -8_568);
+    }
+
+    #[test]
+    fn the_pages_of_the_sheet() {
+        let pages = sheet_pages();
+        let met: Vec<_> = pieces(&pages).map(|piece| (piece[0], described(piece))).collect();
+        for number in [0, 1, 80, 82, 126] {
+            assert!(met.contains(&(0x07, Described { kind: Kind::Second, number })), "{number}");
+        }
+        for (state, numbers) in [(0x00, vec![4]), (0x01, vec![1, 6, 7]), (0x03, vec![6, 7]), (0x07, vec![6, 7, 9])] {
+            let bad = met.iter().filter(|(of, page)| *of == state && page.kind == Kind::Bad);
+            assert_eq!(bad.map(|(_, page)| page.number).collect::<HashSet<_>>(), HashSet::from_iter(numbers));
+        }
+        for state in [0x02, 0x83, 0x0F] {
+            assert!(met.contains(&(state, Described { kind: Kind::Bad, number: 5 })), "{state:02X}");
+        }
+    }
+
+    /// The gain of the sheet's pages, each of them taken for what `taken` says.
+    fn gain_if(taken: impl Fn(&[u8], Described) -> Described) -> i64 {
+        pieces(&sheet_pages()).map(|piece| gain(taken(piece, described(piece)))).sum()
+    }
+
+    /// Whatever kind is taken for whatever other, the gain is another; but first and filled pages count the same, and so
+    /// do blank and bad ones, which only the counts tell apart.
+    #[test]
+    fn a_kind_taken_for_another_shows_in_the_gain() {
+        let same = [[Kind::Blank, Kind::Bad], [Kind::First, Kind::Filled]];
+        for kind in Kind::ALL {
+            for other in Kind::ALL.into_iter().filter(|other| *other != kind) {
+                let taken = |page: Described| if page.kind == kind { Described { kind: other, ..page } } else { page };
+                let shows = !same.iter().any(|pair| pair.contains(&kind) && pair.contains(&other));
+                assert_eq!(gain_if(|_, page| taken(page)) != GAIN, shows, "{kind:?} {other:?}");
+            }
+        }
+    }
+
+    /// What the state alone makes of a piece.
+    fn by_the_state(piece: &[u8]) -> Described {
+        let kind = match piece[0] {
+            0x01 => Kind::First,
+            0x03 => Kind::Filled,
+            0x07 => Kind::Second,
+            _ => Kind::Bad,
+        };
+        Described { kind, number: piece.get(1).copied().map_or(0, u64::from) }
+    }
+
+    /// The gain is another if the bad pages of one, two or three states count by their state, or the last piece does.
+    #[test]
+    fn bad_pages_taken_by_their_state_show_in_the_gain() {
+        let states = [0x01, 0x03, 0x07];
+        for chosen in 1..8 {
+            let among = |state: u8| (0..3).any(|place| chosen >> place & 1 == 1 && states[place] == state);
+            let taken = |piece: &[u8], page| if among(piece[0]) { by_the_state(piece) } else { page };
+            assert_ne!(gain_if(taken), GAIN, "{chosen}");
+        }
+        let short = |piece: &[u8], page| if piece.len() < PAGE_BYTES { by_the_state(piece) } else { page };
+        assert_ne!(gain_if(short), GAIN);
+    }
+
+    /// With the last byte of the page before it, the last piece would be a page.
+    #[test]
+    fn the_last_piece_of_the_sheet() {
+        let pages = sheet_pages();
+        let (whole, last) = pages.split_at(59 * PAGE_BYTES);
+        assert_eq!((last.len(), whole.ends_with(&[0])), (PAGE_BYTES - 1, true));
+        assert_eq!(described(&[last, &[0]].concat()), Described { kind: Kind::First, number: 1_012 });
+    }
+
+    #[test]
+    fn pages_of_one_kind() {
+        for kind in Kind::ALL {
+            let pages: Vec<_> = alike(kind, 300).collect();
+            assert!(pages.iter().all(|page| page.len() == PAGE_BYTES && described(page).kind == kind));
+            let different = HashSet::<&Vec<u8>>::from_iter(&pages).len();
+            assert!(if kind == Kind::Blank { different == 1 } else { different > 200 }, "{kind:?} {different}");
+        }
+        assert!(alike(Kind::Second, 300).all(|page| described(&page).number == 126));
+        let bad: HashSet<_> = alike(Kind::Bad, 300).map(|page| (page[0], described(&page).number)).collect();
+        let wanted = [(0x00, 4), (0x01, 6), (0x01, 7), (0x03, 6), (0x03, 7), (0x07, 6), (0x07, 7), (0x07, 9)];
+        assert!(bad.is_superset(&HashSet::from(wanted)) && bad.iter().any(|(_, number)| *number == 5));
+    }
+
+    #[test]
+    fn roomy_pages() {
+        let mut random = Random::new(9);
+        let pages = (0..300).map(|_| filled_page(&first_page(&roomy_values(&mut random))));
+        let found: HashSet<_> = pages.map(|page| described(&page).number).collect();
+        assert_eq!(found, HashSet::from([1_008, 1_009, 1_010, 1_011, 1_012]));
     }
 }

@@ -78,7 +78,7 @@ loop-again c =
     let h = subst (λ (u : Turn). Counted u (loop .tally)) (known .1) (loop .inv .1) in (
       read .read-full .kept .1 .0 ∙ loop .inv .0,
       subst (λ (t : Tally). Counted (c .next-turn .result) t) (sym (c .before .tally-piece .ensures))
-      (subst (λ (u : Turn). Counted u (turnTally (loop .tally) piece)) (sym (c .next-turn .ensures)) (next-counted (known .0 .0) n (loop .tally) piece h)),
+          (subst (λ (u : Turn). Counted u (turnTally (loop .tally) piece)) (sym (c .next-turn .ensures)) (next-counted (known .0 .0) n (loop .tally) piece h)),
     )
 
 enum-told : tie.Need-enum-told Inv-loop μ-loop

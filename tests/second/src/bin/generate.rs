@@ -1,19 +1,21 @@
-//! Makes the tests' files: the vectors, the listing's pages, and pages at random; and lists pages, and writes the
-//! transfer file of pages, by this implementation.
+//! Makes the tests' files: the vectors, the pages of the listing and of the gain sheet, pages at random, and pages of one
+//! kind; and lists pages, draws up their gain sheet, and writes their transfer file, by this implementation.
 
 use second::cases::pages::any_page;
 use second::command::command;
 use second::file::{file_bytes, write_file, FILE_PAGES_MOST};
-use second::listing::{listing, PAGES_MOST};
+use second::listing::{listing, Kind, PAGES_MOST};
 use second::page::PAGE_BYTES;
 use second::random::Random;
+use second::sheet::sheet;
 use second::{samples, vectors};
 use std::fs;
 use std::io::{self, Read, Write};
 use std::path::Path;
 use std::process::ExitCode;
 
-const USAGE: &str = "usage: generate vectors DIR | listing DIR | pages SEED COUNT EXTRA | list | file DEVICE";
+const USAGE: &str = "usage: generate vectors DIR | listing DIR | sheet DIR | pages SEED COUNT EXTRA | \
+                     alike blank|first|filled|second|bad COUNT | list | gain | file DEVICE";
 
 /// Writes the two files of a test.
 fn write_test(folder: &str, input: &[u8], text: &str) -> io::Result<()> {
@@ -28,8 +30,13 @@ fn write_vectors(folder: &str) -> io::Result<()> {
 }
 
 fn write_listing(folder: &str) -> io::Result<()> {
-    let pages = samples::pages();
+    let pages = samples::listing_pages();
     write_test(folder, &pages, &listing(&pages))
+}
+
+fn write_sheet(folder: &str) -> io::Result<()> {
+    let pages = samples::sheet_pages();
+    write_test(folder, &pages, &sheet(&pages))
 }
 
 /// Writes `count` pages of any kind and `extra` further bytes to standard output.
@@ -43,6 +50,15 @@ fn write_pages(seed: u64, count: usize, extra: u8) -> io::Result<()> {
     output.flush()
 }
 
+/// Writes `count` pages of this kind to standard output.
+fn write_alike(kind: Kind, count: usize) -> io::Result<()> {
+    let mut output = io::BufWriter::new(io::stdout().lock());
+    for page in samples::alike(kind, count) {
+        output.write_all(&page)?;
+    }
+    output.flush()
+}
+
 /// Standard input, up to this many bytes.
 fn input(most: usize) -> io::Result<Vec<u8>> {
     let mut input = Vec::new();
@@ -50,9 +66,9 @@ fn input(most: usize) -> io::Result<Vec<u8>> {
     Ok(input)
 }
 
-/// Lists standard input.
-fn list() -> io::Result<()> {
-    io::stdout().write_all(listing(&input(PAGES_MOST * PAGE_BYTES)?).as_bytes())
+/// Prints the listing or the sheet of standard input.
+fn print(text: fn(&[u8]) -> String) -> io::Result<()> {
+    io::stdout().write_all(text(&input(PAGES_MOST * PAGE_BYTES)?).as_bytes())
 }
 
 /// Writes the transfer file of standard input to standard output; one byte too many is enough to refuse the pages.
@@ -70,8 +86,11 @@ fn asked(arguments: &[&str]) -> Option<ExitCode> {
     let done = match arguments {
         ["vectors", folder] => write_vectors(folder),
         ["listing", folder] => write_listing(folder),
+        ["sheet", folder] => write_sheet(folder),
         ["pages", seed, count, extra] => write_pages(seed.parse().ok()?, count.parse().ok()?, extra.parse().ok()?),
-        ["list"] => list(),
+        ["alike", kind, count] => write_alike(Kind::named(kind)?, count.parse().ok()?),
+        ["list"] => print(listing),
+        ["gain"] => print(sheet),
         ["file", device] => file(device.parse().ok()?),
         _ => return None,
     };

@@ -1,9 +1,9 @@
 -- `tallies::gain_of` meets its contract: each kind has its gain. Assumes nothing.
 use mathlib.Core.Path.{_≡_, sym, ap, subst, _∙_}
-use Prim.Native.Nat.{_*_, _^_, _<_}
+use Prim.Native.Nat.{_^_, _<_}
 use native.Mathlib.Omega.{arith}
 use borrow.Author.Needs.{needs}
-use lib.IntN.{ℤ, pos, negsuc, natAbs, _+ℤ_, _*ℤ_}
+use lib.IntN.{ℤ, negsuc, natAbs, _+ℤ_}
 use mir.Facts.{toZ-ofZ}
 use mir.Syntax.{w64}
 use mir.Val.{SFits, toZ, ofZ}
@@ -24,30 +24,19 @@ enum-told-3 c = search needs
 enum-known-kind : tie.Need-enum-known-kind
 enum-known-kind c = search needs
 
-cast-result : tie.Need-cast-result
-cast-result c = search needs
+bits-of-requires : tie.Need-bits-of-requires
+bits-of-requires c κs = search needs
 
--- a record's length is a number of 32 bits
-small : (c : tie.After-known-told) → c .before .kind .given .0 .0 < 2 ^ 32
-small c = omega (arith, c .known-told .given)
+-- the record's bits, as they are held
+bits : (c : tie.After-bits-of) → toZ w64 (ofZ w64 (c .bits-of .result)) ≡ c .bits-of .result
+bits c = toZ-ofZ (near-fits (c .bits-of .result) (omega (arith, c .bits-of .ensures .1)))
 
--- and is read as it is
-read : (c : tie.After-known-told) → toZ w64 (c .before .kind .given .0 .0) ≡ pos (c .before .kind .given .0 .0)
-read c = toZ-ofZ {w = w64} {z = pos (c .before .kind .given .0 .0)} (record { sfits = omega (arith, small c) })
-
-mul-result : tie.Need-mul-result
-mul-result c = subst (λ (z : ℤ). SFits w64 (pos 8 *ℤ z)) (sym (read c)) (record { sfits = omega (arith, small c) })
-
--- 8 times the length
-times : (c : tie.After-known-told) → let n = c .before .kind .given .0 .0 in toZ w64 (ofZ w64 (pos 8 *ℤ toZ w64 n)) ≡ pos (8 * n)
-times c = toZ-ofZ (mul-result c) ∙ ap (λ (z : ℤ). pos 8 *ℤ z) (read c)
-
-near : (c : tie.After-known-told) → natAbs (negsuc 639 +ℤ pos (8 * c .before .kind .given .0 .0)) < 2 ^ 36
-near c = omega (arith, far-sum (negsuc 639) (pos (8 * c .before .kind .given .0 .0)), small c)
+near : (c : tie.After-bits-of) → natAbs (negsuc 639 +ℤ c .bits-of .result) < 2 ^ 36
+near c = omega (arith, far-sum (negsuc 639) (c .bits-of .result), c .bits-of .ensures .1)
 
 add-result : tie.Need-add-result
 add-result c =
-    subst (λ (z : ℤ). SFits w64 (negsuc 639 +ℤ z)) (sym (times c)) (near-fits (negsuc 639 +ℤ pos (8 * c .before .kind .given .0 .0)) (omega (arith, near c)))
+    subst (λ (z : ℤ). SFits w64 (negsuc 639 +ℤ z)) (sym (bits c)) (near-fits (negsuc 639 +ℤ c .bits-of .result) (omega (arith, near c)))
 
 enum-told-4 : tie.Need-enum-told-4
 enum-told-4 c = search needs
@@ -63,9 +52,10 @@ returns-3 c = (sym (ap gainOf (c .enum-told3 .given .1)), omega arith)
 
 returns-4 : tie.Need-returns-4
 returns-4 c =
-    let n = c .before .kind .given .0 .0 in
-    let sum = toZ-ofZ (add-result c) ∙ ap (λ (z : ℤ). negsuc 639 +ℤ z) (times c) in
-    (sum ∙ sym (ap gainOf (c .before .kind .given .1)), subst (λ (z : ℤ). natAbs z < 2 ^ 36) (sym sum) (near c))
+    let sum = toZ-ofZ (add-result c) ∙ ap (λ (z : ℤ). negsuc 639 +ℤ z) (bits c) in (
+      sum ∙ ap (λ (z : ℤ). negsuc 639 +ℤ z) (c .bits-of .ensures .0) ∙ sym (ap gainOf (c .before .before .kind .given .1)),
+      subst (λ (z : ℤ). natAbs z < 2 ^ 36) (sym sum) (near c),
+    )
 
 returns-5 : tie.Need-returns-5
 returns-5 c = (sym (ap gainOf (c .enum-told4 .given .1)), omega arith)
@@ -78,8 +68,7 @@ gain-of-spec =
     enum-told-2
     enum-told-3
     enum-known-kind
-    cast-result
-    mul-result
+    bits-of-requires
     add-result
     enum-told-4
     returns
