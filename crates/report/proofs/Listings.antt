@@ -17,7 +17,7 @@ use Rattle.report.specs.Lines.{lineOf}
 use Rattle.report.specs.Listing.{piecesFrom, linesFrom, listingFrom, turnLine, nextTurn, refilled, turnsFrom}
 use Rattle.report.specs.declared.Turn.{Turn}
 use Rattle.report.specs.declared.Turn.the-variants.{Page, End}
-use Rattle.report.proofs.Turning.{turn-some, next-unwritten, next-short, next-last, next-page}
+use Rattle.report.proofs.Turning.{next-unwritten, next-short, next-last, next-page}
 
 -- ---- page by page
 

@@ -7,8 +7,9 @@ use Prim.Native.Nat.{ℕ, _+_, _*_, _≤_, _<_}
 use native.Mathlib.Omega.{arith}
 use lib.Dec.{eqb}
 use lib.IntN.{+ℤ-idl}
-use lib.ListN.{length, replicate}
+use lib.ListN.{length}
 use Rattle.text.specs.Text.{ascii, digits, decimal, signed}
+use Rattle.demands.specs.Demands.{blank}
 use Rattle.report.specs.Kinds.{kindOf}
 use Rattle.report.specs.Listing.{piecesFrom, piecesOf}
 use Rattle.report.specs.declared.Kind.{Kind}
@@ -16,7 +17,6 @@ use Rattle.report.specs.declared.Kind.the-variants.{Blank, First, Filled, Secon
 use Rattle.report.proofs.Deciding.{kind-not-sized}
 use Rattle.report.proofs.Listings.{pieces-none, pieces-page, pieces-last, pieces-most, pieces-few, pieces-more}
 use Rattle.report.proofs.Claims.{zeroPage, blank-kind, blank-sized, zero-kind, zero-first}
-use Rattle.demands.specs.Demands.{blank}
 use Rattle.sheet.specs.declared.Tally.{Tally}
 use Rattle.sheet.specs.Sheet.{noPages, tallied, tallyFrom, tallyOf, countsOf, sheetLine, sheetOf}
 use Rattle.sheet.specs.Claims.{SheetRight, place, howMany, gains}

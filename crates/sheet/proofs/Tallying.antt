@@ -13,8 +13,7 @@ use Rattle.report.specs.Kinds.{kindOf}
 use Rattle.report.specs.Listing.{piecesFrom, nextTurn, refilled}
 use Rattle.report.specs.declared.Kind.{Kind}
 use Rattle.report.specs.declared.Kind.the-variants.{Blank, First, Filled, Second, Bad}
-use Rattle.report.specs.declared.Turn.{Turn}
-use Rattle.report.specs.declared.Turn.the-variants.{Page, End}
+use Rattle.report.specs.declared.Turn.the-variants.{End}
 use Rattle.report.proofs.Deciding.{second-short}
 use Rattle.report.proofs.Listings.{pieces-none, due, came, after-piece}
 use Rattle.sheet.specs.declared.Tally.{Tally}
@@ -24,11 +23,13 @@ use Rattle.sheet.proofs.Sums.{far-sum, near-fits}
 
 -- ---- one more page
 
+-- at the end
 pub tally-append : (t : Tally) (ps : List (List ℕ)) (piece : List ℕ) → tallyFrom t (ps ++ piece ∷ []) ≡ tallied (tallyFrom t ps) (kindOf piece)
 unfolding tallyFrom
 tally-append t [] piece = refl
 tally-append t (p ∷ ps) piece = tally-append (tallied t (kindOf p)) ps piece
 
+-- of so many at most, of one more
 tallies-more : {most : ℕ} {t : Tally} (piece : List ℕ) → Tallies most t → Tallies (suc most) (tallied t (kindOf piece))
 tallies-more piece h = record {
   pieces = h .pieces ++ piece ∷ [];
@@ -96,20 +97,20 @@ gain-from t (p ∷ ps) =
     ∙ ap (λ (g : ℤ). g +ℤ gainOf (kindOf p) +ℤ gains ps) (kept t (kindOf p) .1)
     ∙ +ℤ-assoc (t .gain) (gainOf (kindOf p)) (gains ps)
 
--- a page's gain is at most so far from 0
-pub far-kind : (k : Kind) (n : ℕ) → ((m : ℕ) → k ≡ Second m → m ≤ n) → natAbs (gainOf k) ≤ 640 + 8 * n
-far-kind Blank n h = omega arith
-far-kind (First c) n h = omega arith
-far-kind (Filled c) n h = omega arith
-far-kind (Second m) n h = let l = h m refl in omega (arith, far-sum firstGain (pos (8 * m)))
-far-kind (Bad c) n h = omega arith
+-- a page's gain is at most 640 and 8 times 126 from 0
+far-kind : (k : Kind) → ((n : ℕ) → k ≡ Second n → n ≤ 126) → natAbs (gainOf k) ≤ 1648
+far-kind Blank h = omega arith
+far-kind (First c) h = omega arith
+far-kind (Filled c) h = omega arith
+far-kind (Second n) h = let l = h n refl in omega (arith, far-sum firstGain (pos (8 * n)))
+far-kind (Bad c) h = omega arith
 
--- so is the sum
+-- and the sum no further than all of them
 far-gains : (ps : List (List ℕ)) → natAbs (gains ps) ≤ length ps * 1648
 unfolding gains
 far-gains [] = omega arith
 far-gains (p ∷ ps) =
-    omega (arith, far-sum (gainOf (kindOf p)) (gains ps), far-kind (kindOf p) 126 (λ m e. second-short p m e), far-gains ps)
+    omega (arith, far-sum (gainOf (kindOf p)) (gains ps), far-kind (kindOf p) (second-short p), far-gains ps)
 
 -- ---- a tally of fewer than 4,096 pages
 

@@ -19,8 +19,8 @@ use Rattle.sheet.specs.declared.Tally.{Tally}
 abbrev pub firstGain : ℤ
 firstGain = pos 1408 -ℤ pos 2048
 
--- the gain of a page by its kind. "A second-round page counts −640 plus 8 times its record length". "Blank pages count 0, and so does any page
--- that the listing calls bad, whatever its state"
+-- the gain of a page by its kind. "A second-round page counts −640 plus 8 times its record length". "Blank pages count 0, and so does any
+-- page that the listing calls bad, whatever its state"
 abbrev pub gainOf : Kind → ℤ
 gainOf Blank = pos 0
 gainOf (First n) = firstGain
@@ -30,20 +30,41 @@ gainOf (Bad n) = pos 0
 
 -- ---- tallies
 
+-- nothing is counted
 abbrev pub noPages : Tally
 noPages = record { pages = 0; blank = 0; first = 0; filled = 0; second = 0; bad = 0; gain = pos 0 }
 
+-- a tally with these in place of its five counts
+abbrev pub withCounts : Tally → ℕ → ℕ → ℕ → ℕ → ℕ → Tally
+withCounts t blanks firsts filleds seconds bads = record {
+  pages = t .pages;
+  blank = blanks;
+  first = firsts;
+  filled = filleds;
+  second = seconds;
+  bad = bads;
+  gain = t .gain;
+}
+
 -- one more in the count of a kind
 abbrev pub counted : Tally → Kind → Tally
-counted t Blank = record { pages = t .pages; blank = t .blank + 1; first = t .first; filled = t .filled; second = t .second; bad = t .bad; gain = t .gain }
-counted t (First n) = record { pages = t .pages; blank = t .blank; first = t .first + 1; filled = t .filled; second = t .second; bad = t .bad; gain = t .gain }
-counted t (Filled n) = record { pages = t .pages; blank = t .blank; first = t .first; filled = t .filled + 1; second = t .second; bad = t .bad; gain = t .gain }
-counted t (Second n) = record { pages = t .pages; blank = t .blank; first = t .first; filled = t .filled; second = t .second + 1; bad = t .bad; gain = t .gain }
-counted t (Bad n) = record { pages = t .pages; blank = t .blank; first = t .first; filled = t .filled; second = t .second; bad = t .bad + 1; gain = t .gain }
+counted t Blank = withCounts t (t .blank + 1) (t .first) (t .filled) (t .second) (t .bad)
+counted t (First n) = withCounts t (t .blank) (t .first + 1) (t .filled) (t .second) (t .bad)
+counted t (Filled n) = withCounts t (t .blank) (t .first) (t .filled + 1) (t .second) (t .bad)
+counted t (Second n) = withCounts t (t .blank) (t .first) (t .filled) (t .second + 1) (t .bad)
+counted t (Bad n) = withCounts t (t .blank) (t .first) (t .filled) (t .second) (t .bad + 1)
 
 -- one more page, and its gain
 abbrev pub paged : Tally → ℤ → Tally
-paged t g = record { pages = t .pages + 1; blank = t .blank; first = t .first; filled = t .filled; second = t .second; bad = t .bad; gain = t .gain +ℤ g }
+paged t g = record {
+  pages = t .pages + 1;
+  blank = t .blank;
+  first = t .first;
+  filled = t .filled;
+  second = t .second;
+  bad = t .bad;
+  gain = t .gain +ℤ g;
+}
 
 -- the tally after one more page of a kind
 abbrev pub tallied : Tally → Kind → Tally
@@ -66,12 +87,13 @@ pub record Tallies (most : ℕ) (t : Tally) : Type 0 where
 
 -- ---- the line
 
--- a name and a count, "decimal"
+-- the names and the counts: "Each count is decimal"
 unfoldable pub countsOf : Tally → List ℕ
 countsOf t =
     ascii "pages " ++ decimal (t .pages) ++ (ascii " blank " ++ decimal (t .blank)) ++ (ascii " first " ++ decimal (t .first))
     ++ (ascii " filled " ++ decimal (t .filled)) ++ (ascii " second " ++ decimal (t .second)) ++ (ascii " bad " ++ decimal (t .bad))
 
+-- the whole line, with the gain: "signed, with a minus below 0 and no plus"
 unfoldable pub sheetLine : Tally → List ℕ
 sheetLine t = countsOf t ++ ascii " gain " ++ signed (t .gain) ++ ascii "\n"
 

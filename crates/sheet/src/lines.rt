@@ -1,12 +1,12 @@
-// The line of a tally. The parts are put one after another into a buffer of 128 bytes, which the line of every tally fits; the longest
-// of 4,096 pages has 80.
+// The line of a tally. The parts are put one after another into a buffer of 128 bytes, which the line of every tally fits; the longest of
+// 4,096 pages has 78.
 use crate::Tally;
 use text::put_decimal;
 use text::put_signed;
 use text::put_text;
+ghost use mathlib.Core.List.{_++_};
 ghost use mathlib.Core.Path.{_≡_};
 ghost use Prim.Native.Nat.{_+_, _≤_};
-ghost use mathlib.Core.List.{_++_};
 ghost use lib.ListN.{length};
 ghost use lib.Seq.{sets};
 ghost use Rattle.text.specs.Text.{decimal};

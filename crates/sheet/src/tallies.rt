@@ -9,6 +9,9 @@ ghost use lib.IntN.{pos, natAbs};
 ghost use lib.ListN.{take};
 ghost use Rattle.sheet.specs.Sheet.{gainOf, noPages, counted, tallied, turnTally, Tallies};
 
+// The gain of a page that was written once: the bits of its record less those of a page.
+const FIRST_GAIN: i64 = 1408 - 2048;
+
 // The bits of a record.
 fn bits_of(length: u32) -> i64
     ensures bits { λ r. ⌜ r ≡ pos (8 * length) ⌝ }
@@ -24,9 +27,9 @@ fn gain_of(kind: Kind) -> i64
 {
     match kind {
         Kind::Blank => 0,
-        Kind::First(_) => -640,
-        Kind::Filled(_) => -640,
-        Kind::Second(length) => -640 + bits_of(length),
+        Kind::First(_) => FIRST_GAIN,
+        Kind::Filled(_) => FIRST_GAIN,
+        Kind::Second(length) => FIRST_GAIN + bits_of(length),
         Kind::Bad(_) => 0,
     }
 }

@@ -1,16 +1,14 @@
 -- The claim of specs/Claims.antt.
 -- Assumes nothing.
-use mathlib.Core.Bool.{false}
 use mathlib.Core.List.{List, [], _∷_, _++_}
 use mathlib.Core.Path.{_≡_, refl, ap, _∙_}
 use Prim.Native.Nat.{ℕ, zero, suc, _≤_, _<_}
 use native.Mathlib.Omega.{arith}
 use borrow.Author.Tests.{ne-eqb}
-use lib.Dec.{eqb}
 use lib.IntN.{ℤ, pos, negsuc, negℤ}
 use lib.ListN.{length, getD}
 use Rattle.text.specs.Text.{ascii, decimal, signed}
-use Rattle.text.specs.Claims.{NumbersWritten, decimalValue, signedBy, signedValue}
+use Rattle.text.specs.Claims.{NumbersWritten, decimalValue, signedValue}
 use Rattle.text.proofs.Decimals.{decimal-some, decimal-value, decimal-digit, decimal-first}
 
 -- a number that begins with a digit is read as it stands

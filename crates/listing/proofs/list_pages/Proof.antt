@@ -1,15 +1,8 @@
 -- `listing::list_pages` meets its contract. The loop's invariant: the buffer keeps its length. The measure is how many pages may still come.
 -- Assumes nothing.
-use mathlib.Core.Bool.{Bool}
-use mathlib.Core.Logic.{⊎-elim}
-use mathlib.Core.Path.{_≡_, refl, ap, _∙_}
-use Prim.Native.Nat.{ℕ, suc, _+_, _-_, _<_}
-use native.Mathlib.Omega.{arith}
+use mathlib.Core.Path.{_≡_, refl, _∙_}
 use borrow.Author.Needs.{needs}
 use lib.ListN.{length}
-use Rattle.report.specs.Listing.{nextTurn}
-use Rattle.report.specs.declared.Turn.{Turn}
-use Rattle.report.specs.declared.Turn.the-variants.{Page, End}
 use Rattle.report.proofs.Turning.{turns-left, one-less}
 use Rattle.listing.proofs.list_pages.Statement.{statement}
 use Rattle.listing.proofs.list_pages.Tie as tie

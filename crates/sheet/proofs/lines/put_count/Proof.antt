@@ -1,9 +1,7 @@
 -- `lines::put_count` meets its contract: the name, then the digits. Assumes nothing.
-use mathlib.Core.List.{_++_}
-use Prim.Native.Nat.{_≤_}
 use native.Mathlib.Omega.{arith}
 use borrow.Author.Needs.{needs}
-use lib.ListN.{length, length-append}
+use lib.ListN.{length-append}
 use Rattle.text.specs.Text.{decimal}
 use Rattle.text.proofs.Decimals.{decimal-32}
 use Rattle.text.proofs.Storing.{Put, put-put, put-length}

@@ -1,9 +1,9 @@
 -- `tallies::count_kind` meets its contract: one more in the count of a kind. Assumes nothing.
 use mathlib.Core.Path.{sym, ap}
 use native.Mathlib.Omega.{arith}
+use borrow.Author.Needs.{needs}
 use Rattle.sheet.specs.Sheet.{counted}
 use Rattle.sheet.proofs.Tallying.{counts-fit}
-use borrow.Author.Needs.{needs}
 use Rattle.sheet.proofs.tallies.count_kind.Statement.{statement}
 use Rattle.sheet.proofs.tallies.count_kind.Tie as tie
 

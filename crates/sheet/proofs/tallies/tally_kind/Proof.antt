@@ -2,15 +2,15 @@
 use mathlib.Core.Path.{_≡_, sym, ap, ap₂, subst, _∙_}
 use Prim.Native.Nat.{_+_}
 use native.Mathlib.Omega.{arith}
+use borrow.Author.Needs.{needs}
 use lib.IntN.{ℤ, _+ℤ_}
 use mir.Facts.{toZ-ofZ}
 use mir.Syntax.{w64}
 use mir.Val.{SFits, toZ, ofZ}
 use Rattle.sheet.specs.declared.Tally.{Tally}
 use Rattle.sheet.specs.Sheet.{paged}
-use Rattle.sheet.proofs.Tallying.{kept, pages-fit, gain-held, gain-fits}
 use Rattle.sheet.proofs.Sums.{near-fits}
-use borrow.Author.Needs.{needs}
+use Rattle.sheet.proofs.Tallying.{kept, pages-fit, gain-held, gain-fits}
 use Rattle.sheet.proofs.tallies.tally_kind.Statement.{statement}
 use Rattle.sheet.proofs.tallies.tally_kind.Tie as tie
 

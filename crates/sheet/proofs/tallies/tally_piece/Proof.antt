@@ -1,10 +1,10 @@
 -- `tallies::tally_piece` meets its contract: the piece's kind is counted, or nothing. Assumes nothing.
 use mathlib.Core.Path.{sym, ap, _∙_}
+use borrow.Author.Needs.{needs}
 use lib.ListN.{length, take}
 use Rattle.report.specs.Kinds.{kindOf}
 use Rattle.sheet.specs.Sheet.{tallied}
 use Rattle.sheet.proofs.Tallying.{turn-none, turn-some}
-use borrow.Author.Needs.{needs}
 use Rattle.sheet.proofs.tallies.tally_piece.Statement.{statement}
 use Rattle.sheet.proofs.tallies.tally_piece.Tie as tie
 
