@@ -7,16 +7,18 @@ use libc::STDIN_FILENO;
 use libc::STDOUT_FILENO;
 use report::Turn;
 use sheet::Tally;
+ghost use mathlib.Core.List.{List};
 ghost use mathlib.Core.Path.{_≡_};
+ghost use Prim.Native.Nat.{ℕ};
 ghost use lib.ListN.{replicate};
-ghost use Rattle.report.specs.Listing.{firstTurn};
-ghost use Rattle.sheet.specs.Sheet.{Tallies, sheetLine};
+ghost use Rattle.report.specs.Listing.{piecesOf, firstTurn};
+ghost use Rattle.sheet.specs.Sheet.{tallyOf, sheetOf};
 
-// Refills the buffer and counts what came, turn after turn from the first, until there is none.
+// Refills the buffer and counts what came, turn after turn from the first, until there is none: the tally of an input.
 fn tally_pages(page: &mut [u8], first: Turn) -> Tally
     requires zeros { ⌜ now page ≡ replicate 256 0 ⌝ }
     requires from { ⌜ first ≡ firstTurn ⌝ }
-    ensures { λ r. ⌜ Tallies 4096 r ⌝ }
+    ensures { λ r. ⌜ ((l : List ℕ) × (r ≡ tallyOf (piecesOf l))) ⌝ }
 {
     let mut tally = sheet::no_pages();
     let mut turn = first;
@@ -28,21 +30,20 @@ fn tally_pages(page: &mut [u8], first: Turn) -> Tally
     tally
 }
 
-// Writes the line of a tally; whether all of it was written.
-fn write_line(tally: Tally, line: &[u8]) -> bool
-    requires few { ⌜ Tallies 4096 tally ⌝ }
-    requires bytes { ⌜ now line ≡ sheetLine tally ⌝ }
+// Writes the sheet of an input; whether all of it was written.
+fn write_line(line: &[u8]) -> bool
+    requires { ⌜ ((l : List ℕ) × (now line ≡ sheetOf l)) ⌝ }
 {
     io::write_all(STDOUT_FILENO, line)
 }
 
-// Puts the line of a tally together and writes it.
+// Puts the line of an input's tally together and writes it.
 fn write_sheet(tally: Tally) -> bool
-    requires { ⌜ Tallies 4096 tally ⌝ }
+    requires { ⌜ ((l : List ℕ) × (tally ≡ tallyOf (piecesOf l))) ⌝ }
 {
     let mut line = [0u8; 128];
     let k = sheet::put_sheet(tally, &mut line);
-    write_line(tally, &line[..k])
+    write_line(&line[..k])
 }
 
 fn main() {

@@ -66,6 +66,16 @@ pieces-few zero l = omega arith
 pieces-few (suc k) [] = omega arith
 pieces-few (suc k) (b ∷ l) = let h = pieces-few k (drop 256 (b ∷ l)) in omega arith
 
+-- n whole pages are n
+pub pieces-count : (n k : ℕ) (P : List ℕ) → length P ≡ n * 256 → length (piecesFrom k P) ≤ n
+unfolding piecesFrom
+pieces-count n zero P e = omega arith
+pieces-count n (suc k) [] e = omega arith
+pieces-count zero (suc k) (b ∷ P) e = absurd (omega arith)
+pieces-count (suc n) (suc k) (b ∷ P) e =
+    let h = pieces-count n k (drop 256 (b ∷ P)) (omega (arith, length-drop 256 (b ∷ P), e)) in
+    omega arith
+
 -- n whole pages, and a last piece
 pub pieces-more : (n k : ℕ) (P l : List ℕ) → length P ≡ n * 256 → n < k → 0 < length l → length l ≤ 256
     → piecesFrom k (P ++ l) ≡ piecesFrom k P ++ l ∷ []

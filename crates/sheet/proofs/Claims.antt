@@ -3,24 +3,22 @@
 use mathlib.Core.Bool.{cond}
 use mathlib.Core.List.{List, [], _∷_, _++_}
 use mathlib.Core.Path.{_≡_, refl, sym, ap, _∙_}
-use Prim.Native.Nat.{ℕ, _+_, _*_, _≤_, _<_}
+use Prim.Native.Nat.{ℕ, _+_}
 use native.Mathlib.Omega.{arith}
 use lib.Dec.{eqb}
 use lib.IntN.{+ℤ-idl}
-use lib.ListN.{length}
 use Rattle.text.specs.Text.{ascii, digits, decimal, signed}
 use Rattle.demands.specs.Demands.{blank}
-use Rattle.report.specs.Kinds.{kindOf}
-use Rattle.report.specs.Listing.{piecesFrom, piecesOf}
+use Rattle.report.specs.Listing.{piecesOf}
 use Rattle.report.specs.declared.Kind.{Kind}
 use Rattle.report.specs.declared.Kind.the-variants.{Blank, First, Filled, Second, Bad}
 use Rattle.report.proofs.Deciding.{kind-not-sized}
-use Rattle.report.proofs.Listings.{pieces-none, pieces-page, pieces-last, pieces-most, pieces-few, pieces-more}
+use Rattle.report.proofs.Listings.{pieces-none, pieces-page, pieces-last, pieces-most, pieces-few}
 use Rattle.report.proofs.Claims.{zeroPage, blank-kind, blank-sized, zero-kind, zero-first}
 use Rattle.sheet.specs.declared.Tally.{Tally}
 use Rattle.sheet.specs.Sheet.{noPages, tallied, tallyFrom, tallyOf, countsOf, sheetLine, sheetOf}
 use Rattle.sheet.specs.Claims.{SheetRight, place, howMany, gains}
-use Rattle.sheet.proofs.Tallying.{tally-append, counted-up, pages-counted, total-counted, gain-from, turns-tally}
+use Rattle.sheet.proofs.Tallying.{tally-more, counted-up, pages-counted, total-counted, gain-from, turns-tally}
 
 -- ---- the counts
 
@@ -65,14 +63,6 @@ count-of : (p : ℕ) (count : Tally → ℕ) → ((t : Tally) (k : Kind) → cou
     → (ps : List (List ℕ)) → count (tallyOf ps) ≡ howMany p ps
 count-of p count step none ps = omega (arith, counted-up count (λ k. cond (eqb (place k) p) 1 0) step noPages ps, none)
 
--- ---- the input
-
--- n whole pages, then a page or a piece of one
-one-more : (n : ℕ) (P l : List ℕ) → length P ≡ n * 256 → n < 4096 → 0 < length l → length l ≤ 256
-    → tallyOf (piecesOf (P ++ l)) ≡ tallied (tallyOf (piecesOf P)) (kindOf l)
-unfolding piecesOf
-one-more n P l e m some h = ap tallyOf (pieces-more n 4096 P l e m some h) ∙ tally-append noPages (piecesFrom 4096 P) l
-
 -- ---- the line
 
 -- the tally of the two pages
@@ -109,8 +99,8 @@ sheet-right = record {
   );
   counts = λ ps. total-counted ps ∙ sym (pages-counted ps);
   gain = λ ps. gain-from noPages ps ∙ +ℤ-idl (gains ps);
-  one-more = one-more;
-  short-piece = λ n P l e m some h. one-more n P l e m some (omega arith) ∙ ap (tallied (tallyOf (piecesOf P))) (kind-not-sized l (omega arith));
+  one-more = tally-more;
+  short-piece = λ n P l e m some h. tally-more n P l e m some (omega arith) ∙ ap (tallied (tallyOf (piecesOf P))) (kind-not-sized l (omega arith));
   few = λ l. record { pieces = piecesOf l; few = pieces-few 4096 l; all = refl };
   most = λ n l h. ap (λ (ps : List (List ℕ)). sheetLine (tallyOf ps)) (pieces-most 4096 n l h);
   turns = λ k buffer l h. turns-tally 4096 k 0 noPages buffer l h refl;

@@ -6,16 +6,16 @@ use mathlib.Core.Path.{_≡_, refl, sym, ap, _∙_}
 use Prim.Native.Nat.{ℕ, zero, suc, _+_, _*_, _^_, _≤_, _<_}
 use native.Mathlib.Omega.{arith}
 use lib.IntN.{ℤ, pos, natAbs, _+ℤ_, +ℤ-idl, +ℤ-idr, +ℤ-assoc}
-use lib.ListN.{length, take, drop, length-append}
+use lib.ListN.{length, take, drop}
 use mir.Syntax.{w64}
 use mir.Val.{SFits}
 use Rattle.report.specs.Kinds.{kindOf}
-use Rattle.report.specs.Listing.{piecesFrom, nextTurn, refilled}
+use Rattle.report.specs.Listing.{piecesFrom, piecesOf, nextTurn, refilled}
 use Rattle.report.specs.declared.Kind.{Kind}
 use Rattle.report.specs.declared.Kind.the-variants.{Blank, First, Filled, Second, Bad}
 use Rattle.report.specs.declared.Turn.the-variants.{End}
 use Rattle.report.proofs.Deciding.{second-short}
-use Rattle.report.proofs.Listings.{pieces-none, due, came, after-piece}
+use Rattle.report.proofs.Listings.{pieces-none, pieces-count, pieces-more, due, came, after-piece}
 use Rattle.sheet.specs.declared.Tally.{Tally}
 use Rattle.sheet.specs.Sheet.{firstGain, gainOf, noPages, counted, tallied, tallyFrom, tallyOf, Tallies, turnTally, turnsTally}
 use Rattle.sheet.specs.Claims.{sumBy, gains}
@@ -24,28 +24,21 @@ use Rattle.sheet.proofs.Sums.{far-sum, near-fits}
 -- ---- one more page
 
 -- at the end
-pub tally-append : (t : Tally) (ps : List (List ℕ)) (piece : List ℕ) → tallyFrom t (ps ++ piece ∷ []) ≡ tallied (tallyFrom t ps) (kindOf piece)
+tally-append : (t : Tally) (ps : List (List ℕ)) (piece : List ℕ) → tallyFrom t (ps ++ piece ∷ []) ≡ tallied (tallyFrom t ps) (kindOf piece)
 unfolding tallyFrom
 tally-append t [] piece = refl
 tally-append t (p ∷ ps) piece = tally-append (tallied t (kindOf p)) ps piece
 
--- of so many at most, of one more
-tallies-more : {most : ℕ} {t : Tally} (piece : List ℕ) → Tallies most t → Tallies (suc most) (tallied t (kindOf piece))
-tallies-more piece h = record {
-  pieces = h .pieces ++ piece ∷ [];
-  few = omega (arith, length-append (h .pieces) (piece ∷ []), h .few);
-  all = ap (λ (t : Tally). tallied t (kindOf piece)) (h .all) ∙ sym (tally-append noPages (h .pieces) piece);
-}
+-- n whole pages of an input, then a page or a piece of one
+pub tally-more : (n : ℕ) (P l : List ℕ) → length P ≡ n * 256 → n < 4096 → 0 < length l → length l ≤ 256
+    → tallyOf (piecesOf (P ++ l)) ≡ tallied (tallyOf (piecesOf P)) (kindOf l)
+unfolding piecesOf
+tally-more n P l e m some h = ap tallyOf (pieces-more n 4096 P l e m some h) ∙ tally-append noPages (piecesFrom 4096 P) l
 
--- what is a tally of so many is one of more
-pub tallies-wider : {most more : ℕ} {t : Tally} → most ≤ more → Tallies most t → Tallies more t
-tallies-wider h p = record { pieces = p .pieces; few = omega (arith, h, p .few); all = p .all }
-
--- after a turn
-pub tallies-turn : {most : ℕ} {t : Tally} (piece : List ℕ) → Tallies most t → Tallies (suc most) (turnTally t piece)
-unfolding turnTally
-tallies-turn [] p = tallies-wider (omega arith) p
-tallies-turn (b ∷ l) p = tallies-more (b ∷ l) p
+-- that of n whole pages is one of n at most
+pub tally-whole : (n : ℕ) {t : Tally} (P : List ℕ) → length P ≡ n * 256 → n ≤ 4095 → t ≡ tallyOf (piecesOf P) → Tallies 4095 t
+unfolding piecesOf
+tally-whole n P e m all = record { pieces = piecesOf P; few = omega (arith, pieces-count n 4096 P e, m); all = all }
 
 -- ---- the counts
 

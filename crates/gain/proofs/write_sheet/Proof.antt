@@ -1,4 +1,4 @@
--- `gain::write_sheet` meets its contract: what stands at the line's start is the line of the tally.
+-- `gain::write_sheet` meets its contract: what stands at the line's start is the line of the tally, and so the sheet of the input.
 -- Assumes nothing.
 use mathlib.Core.Path.{_≡_, sym, ap, _∙_}
 use Prim.Native.Nat.{_≤_}
@@ -7,7 +7,7 @@ use borrow.Author.Needs.{needs}
 use lib.ListN.{length, take, replicate}
 use lib.Seq.{length-sets, length-take-le}
 use Rattle.text.proofs.Storing.{sets-taken}
-use Rattle.sheet.specs.Sheet.{sheetLine}
+use Rattle.sheet.specs.Sheet.{sheetLine, sheetOf}
 use Rattle.gain.proofs.write_sheet.Statement.{statement}
 use Rattle.gain.proofs.write_sheet.Tie as tie
 
@@ -28,12 +28,14 @@ slice-aggregate-write-line : tie.Need-slice-aggregate-write-line
 slice-aggregate-write-line c = sym (length-take-le _ _ (within (c .before)))
 
 write-line-requires : tie.Need-write-line-requires
+unfolding sheetOf
 write-line-requires c κs =
     let p = c .before .put-sheet in
     let s = c .before .before .before in (
-      s .pre,
+      s .pre .0,
       ap (take (p .result)) (p .ensures .1 .1)
-          ∙ sets-taken (replicate 128 0) (sheetLine (s .args .tally)) (p .result) (p .ensures .0) (p .ensures .1 .0),
+          ∙ sets-taken (replicate 128 0) (sheetLine (s .args .tally)) (p .result) (p .ensures .0) (p .ensures .1 .0)
+          ∙ ap sheetLine (s .pre .1),
     )
 
 returns : tie.Need-returns
