@@ -79,6 +79,11 @@ within n (m ∷ ns) ms w h = go (eqb n m) refl h (within n ns ms (w .1))
 
 -- ---- the first that holds
 
+-- neither of two conditions holds
+pub neither : (a b : Bool) → (a || b) ≡ false → (a ≡ false) × (b ≡ false)
+neither true b e = absurd (subst T e tt)
+neither false b e = (refl, e)
+
 -- just when: no earlier condition holds, and this one does
 pub refused : {A : Type 0} (cs ds : List Check) (b : Bool) (x : A) (n i k : ℕ) → among n (numbers cs) ≡ false → among n (numbers ds) ≡ false
     → (answer (cs ++ (refuse b n i ∷ ds)) x ≡ refusal n k) ↔ (None cs × (b ≡ true) × (k ≡ i))
@@ -86,20 +91,12 @@ unfolding among answer numbers
 refused [] ds true x n i k f g = (λ e. (tt, refl, cc), λ h. ap (refusal n) (sym (h .2)))
 refused [] ds false x n i k f g = (λ e. absurd (subst T g (listed ds x n k e)), λ h. absurd (subst T (sym (h .1)) tt))
 refused (refuse true m j ∷ cs) ds b x n i k f g = (
-  λ e. let z : n ≡ m = cc in absurd (subst T (left (eqb n m) (among n (numbers cs)) f) (rw (eq-eqb n m z) tt)),
+  λ e. let z : n ≡ m = cc in absurd (subst T (neither (eqb n m) (among n (numbers cs)) f .0) (rw (eq-eqb n m z) tt)),
   λ h. absurd (subst T (h .0 .0) tt),
 )
-  where
-    left : (a b : Bool) → (a || b) ≡ false → a ≡ false
-    left true b e = e
-    left false b e = refl
 refused (refuse false m j ∷ cs) ds b x n i k f g =
-    let r = refused cs ds b x n i k (rest (eqb n m) (among n (numbers cs)) f) g in
+    let r = refused cs ds b x n i k (neither (eqb n m) (among n (numbers cs)) f .1) g in
     (λ e. let p = r .0 e in ((refl, p .0), p .1, p .2), λ h. r .1 (h .0 .1, h .1, h .2))
-  where
-    rest : (a b : Bool) → (a || b) ≡ false → b ≡ false
-    rest true b e = absurd (subst T e tt)
-    rest false b e = e
 
 -- ---- what an answer leaves
 

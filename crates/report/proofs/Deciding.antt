@@ -1,5 +1,5 @@
 -- Which kind a piece has, by its length and its state, and why. Assumes nothing.
-use mathlib.Core.Bool.{Bool, true, false, _||_}
+use mathlib.Core.Bool.{Bool, true, false}
 use mathlib.Core.List.{List, [], _∷_}
 use mathlib.Core.Logic.{_⊎_, inl, inr, ⊎-elim}
 use mathlib.Core.Path.{_≡_, refl, sym, ap, _∙_, subst}
@@ -13,7 +13,7 @@ use mir.Facts.{and-yes}
 use Rattle.cells.specs.Bytes.{zeros}
 use Rattle.cells.proofs.Tests.{holds}
 use Rattle.answer.specs.Answer.{Answer, result, refusal, among, answer, numbers}
-use Rattle.answer.proofs.Chains.{accepted, no-other, last-passed, within}
+use Rattle.answer.proofs.Chains.{accepted, neither, no-other, last-passed, within}
 use Rattle.rows.specs.Page.{state, byte1, isBlank, blankOf, page256}
 use Rattle.rows.proofs.Blank.{zeros-blank, blank-zeros}
 use Rattle.filled.specs.Answer.{pageCapacityAnswer, capacityChecks}
@@ -137,12 +137,8 @@ pub second-short : (P : List ℕ) (n : ℕ) → kindOf P ≡ Second n → n ≤ 
 unfolding secondChecks blankOf
 second-short P n e =
     let passed = accepted (secondChecks page256 P) (byte1 P) n .0 (sym (second-fits P (blankOf 126) (omega arith)) ∙ kind-why P (Second n) e) in
-    let short = ltb-false 126 (byte1 P) (left (ltb 126 (byte1 P)) _ (passed .0 .1 .1 .0)) in
+    let short = ltb-false 126 (byte1 P) (neither (ltb 126 (byte1 P)) _ (passed .0 .1 .1 .0) .0) in
     omega (arith, passed .1)
-  where
-    left : (a b : Bool) → (a || b) ≡ false → a ≡ false
-    left false b e = refl
-    left true b e = e
 
 -- document 01's
 abbrev badNumbers : List ℕ
