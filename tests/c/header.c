@@ -71,7 +71,7 @@ static const struct {
     CONSTANT(WOM_FILE_BYTES(1), 271),
     CONSTANT(WOM_FILE_BYTES(1 + 1), 530),
     CONSTANT(sizeof(uint8_t[WOM_FILE_BYTES(WOM_FILE_PAGES_MAX)]), 16588),
-    CONSTANT(WOM_VERSION, 30000),
+    CONSTANT(WOM_VERSION, 40000),
 };
 
 static void check_constants(void)
@@ -121,7 +121,7 @@ static void check_texts(void)
         check_text(wom_refusal_name(texts[i].number), texts[i].expected);
     }
     in_case("WOM_VERSION_STRING", WOM_VERSION);
-    check_text(WOM_VERSION_STRING, "3.0.0");
+    check_text(WOM_VERSION_STRING, "4.0.0");
 }
 
 static const struct {
@@ -211,7 +211,7 @@ static const struct value {
     {0, {END}, {EVEN_TO_40, 42, 44, END}, 23, 23},
     {1, {45, END}, {EVEN_TO_40, 42, 45, END}, 22, 22},
     {2, {44, END}, {EVEN_TO_40, 42, 44, END}, 22, 23},
-    {3, {43, END}, {EVEN_TO_40, 43, 45, END}, 22, 22},
+    {3, {43, END}, {EVEN_TO_40, 43, END}, 21, 22},
     {77, {37, 39, 45, END}, {EVEN_TO_34, 37, 39, 41, 43, 45, END}, 20, 22},
     {243, {34, 41, 44, END}, {EVEN_TO_34, 36, 38, 41, 44, END}, 19, 22},
     {2971215072u, {EVERY_ODD, END}, {EVERY_ODD, END}, 0, 22},
@@ -221,8 +221,8 @@ static const struct value {
     {4294967295u,
      {0, 2, 6, 11, 13, 15, 19, 21, 25, 33, 37, 40, 43, END},
      {0, 2, 4, 6, 8, 11, 13, 15, 17, 19, 21, 23, 25, 27, 29, 31, 33, 35, 37, 40,
-      43, 45, END},
-     9,
+      43, END},
+     8,
      21},
 };
 
@@ -261,7 +261,7 @@ static const struct {
     {UINT64_C(0x000000000000), UINT64_C(0x00172aaaaaaaaaaa)}, /* of 0 */
     {UINT64_C(0x000000000001), UINT64_C(0x00162aaaaaaaaaa9)}, /* of 1 */
     {UINT64_C(0x000000000002), UINT64_C(0x00162aaaaaaaaaaa)}, /* of 2 */
-    {UINT64_C(0x000000000004), UINT64_C(0x00162aaaaaaaaaa5)}, /* of 3 */
+    {UINT64_C(0x000000000004), UINT64_C(0x00152aaaaaaaaaa4)}, /* of 3 */
     {UINT64_C(0x000000000141), UINT64_C(0x00142aaaaaaaa955)}, /* of 77 */
     {UINT64_C(0x000000000812), UINT64_C(0x00132aaaaaaaaa92)}, /* of 243 */
     {UINT64_C(0x249249249249), UINT64_C(0x0000249249249249)}, /* 3889371024 */
@@ -387,6 +387,39 @@ static const struct page mixed_zero = {
     {0x07, 1, 0, 0xaa, 0xaa}, {MIXED_WORDS_FILLED}, {0x92, 0x49},
 };
 
+/* 44 times 3, filled, and over it 121 bytes of ones, which take every data
+ * cell; the same as versions before 4.0.0 left it, with cell 45 set. */
+static const struct page threes_first = {
+    {0x01, 0, 0, 0x00, 0x00},
+    {0x00, 0x00, 0x00, 0x00, 0x00, 0x10, 0x00, 0x00, 0x00, 0x00, 0x00, 0x40,
+     0x00, 0x00, 0x00, 0x00, 0x01, 0x00, 0x00, 0x00, 0x00, 0x00, 0x04},
+    {0x00, 0x04},
+};
+static const struct page threes_filled = {
+    {0x03, 0, 0, 0xaa, 0xaa},
+    {0xaa, 0xaa, 0xaa, 0xaa, 0xaa, 0x92, 0xaa, 0xaa, 0xaa, 0xaa, 0xaa, 0x4a,
+     0xaa, 0xaa, 0xaa, 0xaa, 0xa9, 0x2a, 0xaa, 0xaa, 0xaa, 0xaa, 0xa4},
+    {0xaa, 0xa4},
+};
+static const struct page threes_ones = {
+    {0x07, 121, 0, 0xff, 0xff},
+    {0xff, 0xff, 0xff, 0xff, 0xff, 0xdb, 0xff, 0xff, 0xff, 0xff, 0xff, 0x6f,
+     0xff, 0xff, 0xff, 0xff, 0xfd, 0xbf, 0xff, 0xff, 0xff, 0xff, 0xf6},
+    {0xff, 0xf6},
+};
+static const struct page threes_filled_earlier = {
+    {0x03, 0, 0, 0xaa, 0xaa},
+    {0xaa, 0xaa, 0xaa, 0xaa, 0xaa, 0x96, 0xaa, 0xaa, 0xaa, 0xaa, 0xaa, 0x5a,
+     0xaa, 0xaa, 0xaa, 0xaa, 0xa9, 0x6a, 0xaa, 0xaa, 0xaa, 0xaa, 0xa5},
+    {0xaa, 0xa5},
+};
+static const struct page threes_ones_earlier = {
+    {0x07, 121, 0, 0xff, 0xff},
+    {0xff, 0xff, 0xff, 0xff, 0xff, 0xdf, 0xff, 0xff, 0xff, 0xff, 0xff, 0x7f,
+     0xff, 0xff, 0xff, 0xff, 0xfd, 0xff, 0xff, 0xff, 0xff, 0xff, 0xf7},
+    {0xff, 0xf7},
+};
+
 /* Sixteen bytes, which repeat themselves. */
 static const uint8_t zeros[16] = {0};
 static const uint8_t ones[16] = {TIMES_16(0xff)};
@@ -489,10 +522,15 @@ static const struct accepted {
     {PAGE_CAPACITY, &zeros_filled, nines, 0, 1012, &zeros_filled, zeros, 0},
     {PAGE_CAPACITY, &least_filled, nines, 0, 660, &least_filled, zeros, 0},
     {PAGE_CAPACITY, &mixed_filled, nines, 0, 891, &mixed_filled, zeros, 0},
+    {PAGE_CAPACITY, &threes_first, nines, 0, 968, &threes_first, zeros, 0},
+    {PAGE_CAPACITY, &threes_filled, nines, 0, 968, &threes_filled, zeros, 0},
+    {PAGE_CAPACITY, &threes_filled_earlier, nines, 0, 968,
+     &threes_filled_earlier, zeros, 0},
 
     {FILL_PAGE, &zeros_first, nines, 0, 1012, &zeros_filled, zeros, 0},
     {FILL_PAGE, &least_first, nines, 0, 0, &least_filled, zeros, 0},
     {FILL_PAGE, &mixed_first, nines, 0, 671, &mixed_filled, zeros, 0},
+    {FILL_PAGE, &threes_first, nines, 0, 924, &threes_filled, zeros, 0},
 
     {WRITE_SECOND, &zeros_filled, zeros, 0, 0, &zeros_none, zeros, 0},
     {WRITE_SECOND, &zeros_filled, zeros, 1, 0, &zeros_zero, zeros, 0},
@@ -501,6 +539,9 @@ static const struct accepted {
     {WRITE_SECOND, &least_filled, ones, 82, 0, &least_ones, zeros, 0},
     {WRITE_SECOND, &mixed_filled, zeros, 0, 0, &mixed_none, zeros, 0},
     {WRITE_SECOND, &mixed_filled, zeros, 1, 0, &mixed_zero, zeros, 0},
+    {WRITE_SECOND, &threes_filled, ones, 121, 0, &threes_ones, zeros, 0},
+    {WRITE_SECOND, &threes_filled_earlier, ones, 121, 0, &threes_ones_earlier,
+     zeros, 0},
 
     {READ_SECOND, &zeros_none, nines, 0, 0, &zeros_none, zeros, 0},
     {READ_SECOND, &zeros_zero, nines, 1, 1, &zeros_zero, zeros, 1},
@@ -509,6 +550,9 @@ static const struct accepted {
     {READ_SECOND, &least_ones, nines, 300, 82, &least_ones, ones, 82},
     {READ_SECOND, &mixed_none, nines, 1, 0, &mixed_none, zeros, 0},
     {READ_SECOND, &mixed_zero, nines, 2, 1, &mixed_zero, zeros, 1},
+    {READ_SECOND, &threes_ones, nines, 121, 121, &threes_ones, ones, 121},
+    {READ_SECOND, &threes_ones_earlier, nines, 300, 121, &threes_ones_earlier,
+     ones, 121},
 };
 
 static void check_accepted_call(const struct accepted *row)
@@ -593,6 +637,7 @@ static const struct refused {
     {PAGE_CAPACITY, &zeros_filled, 256, 3, 0x2a, 0, 7, 0}, /* at cell 0 */
     {PAGE_CAPACITY, &zeros_filled, 256, 8, 0xab, 0, 7, 1}, /* a data cell */
     {PAGE_CAPACITY, &zeros_filled, 256, 255, 0xab, 0, 7, 43}, /* a data cell */
+    {PAGE_CAPACITY, &threes_filled, 256, 255, 0xa1, 0, 7, 43}, /* at cell 42 */
 
     {FILL_PAGE, &zeros_first, 0, 0, 0x01, 0, 1, 0},
     {FILL_PAGE, &zeros_first, 255, 0, 0x01, 0, 1, 0},
@@ -631,9 +676,13 @@ static const struct refused {
     {WRITE_SECOND, &zeros_filled, 256, 8, 0xa8, 1, 7, 1}, /* room at cell 0 */
     {WRITE_SECOND, &zeros_filled, 256, 255, 0xa8, 0, 7, 43}, /* at cell 44 */
     {WRITE_SECOND, &zeros_filled, 256, 255, 0xab, 127, 7, 43}, /* a data cell */
+    {WRITE_SECOND, &threes_filled, 256, 255, 0xa0, 1, 7, 43}, /* at cell 42 */
+    {WRITE_SECOND, &threes_filled_earlier, 256, 255, 0xa1, 1, 7, 43}, /* 42 */
     {WRITE_SECOND, &zeros_filled, 256, 0, 0x03, 127, 8, 1012},
     {WRITE_SECOND, &least_filled, 256, 0, 0x03, 83, 8, 660},
     {WRITE_SECOND, &mixed_filled, 256, 0, 0x03, 112, 8, 891},
+    {WRITE_SECOND, &threes_filled, 256, 0, 0x03, 122, 8, 968},
+    {WRITE_SECOND, &threes_filled_earlier, 256, 0, 0x03, 122, 8, 968},
 
     {READ_SECOND, &zeros_ones, 0, 0, 0x07, 126, 1, 0},
     {READ_SECOND, &zeros_ones, 0, 0, 0x07, 0, 1, 0},
@@ -644,6 +693,7 @@ static const struct refused {
     {READ_SECOND, &zeros_ones, 256, 2, 0x01, 126, 6, 0},
     {READ_SECOND, &zeros_none, 256, 3, 0x00, 126, 7, 0}, /* room at cell 0 */
     {READ_SECOND, &zeros_none, 256, 255, 0xa8, 126, 7, 43}, /* at cell 44 */
+    {READ_SECOND, &threes_ones, 256, 255, 0xf0, 126, 7, 43}, /* at cell 42 */
     {READ_SECOND, &zeros_none, 256, 255, 0xab, 126, 9, 0}, /* a spare cell */
     {READ_SECOND, &least_ones, 256, 1, 83, 126, 9, 0}, /* too few data cells */
     {READ_SECOND, &zeros_ones, 256, 0, 0x07, 125, 3, 0},
@@ -693,7 +743,7 @@ static const struct page_fill {
     {3889371024u, 3889371024u, 0},
     {0, 3889371024u, 23},
     {243, 3889371024u, 19},
-    {1, 4294967295u, 409},
+    {1, 4294967295u, 366},
 };
 
 static void lay_values(uint8_t data[176], const struct page_fill *row, int word)

@@ -131,7 +131,7 @@ module _ {σ : Shape} (f : Sound σ) where
 
   module _ (page : List ℕ) (hp : Bytes page) (l : length page ≡ σ .size) where
     -- the first two bytes and the words replaced
-    laid-put : (a b : ℕ) (ws : List (List Bool)) → a < 256 → b < 256 → Row n ws
+    pub laid-put : (a b : ℕ) (ws : List (List Bool)) → a < 256 → b < 256 → Row n ws
         → putWords (a ∷ b ∷ drop 2 page) ws ≡ laid a b (byte2 page) ws (tail m page)
     laid-put a b ws ha hb r =
         let p : List ℕ = a ∷ b ∷ byte2 page ∷ drop 3 page in
@@ -148,7 +148,7 @@ module _ {σ : Shape} (f : Sound σ) where
         ∙ putWords-own page n hp (omega arith)
 
     -- the state and the words replaced
-    laid-state : (a : ℕ) (ws : List (List Bool)) → a < 256 → Row n ws
+    pub laid-state : (a : ℕ) (ws : List (List Bool)) → a < 256 → Row n ws
         → putWords (a ∷ drop 1 page) ws ≡ laid a (byte1 page) (byte2 page) ws (tail m page)
     laid-state a ws ha r =
         ap (λ (x : List ℕ). putWords (a ∷ x) ws) (drop-cons page 1 0 (omega arith)) ∙ laid-put a (byte1 page) ws ha (hp 1) r

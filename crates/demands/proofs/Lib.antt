@@ -1,4 +1,5 @@
--- The proofs of the demands (Demands.antt) and of a page's pulses (Pulses.antt), and the laws that only they need.
+-- The proofs of the demands (Demands.antt), of a page's pulses (Pulses.antt) and of pages filled earlier (Earlier.antt), and the laws that
+-- only they need.
 pub mod Origins
 pub mod Laid
 pub mod Kept
@@ -8,3 +9,4 @@ pub mod FilledPages
 pub mod Bounds
 pub mod Pulses
 pub mod Demands
+pub mod Earlier

@@ -1,3 +1,4 @@
--- The demands as statements, and what is claimed of a page's pulses.
+-- The demands as statements, and what is claimed of a page's pulses and of pages filled by the earlier fill.
 pub mod Demands
 pub mod Pulses
+pub mod Earlier

@@ -16,7 +16,7 @@ use Rattle.answer.specs.Answer.{Answer, result, refusal, among}
 use Rattle.answer.proofs.Chains.{last-passed, same-refusal, among-others}
 use Rattle.window.specs.Words.{pageWords}
 use Rattle.word.specs.Word.{seriesFrom, weight, zeckendorf}
-use Rattle.word.specs.Fill.{fillFrom, fill, readFrom, read, capacity}
+use Rattle.word.specs.Fill.{setOrEnd, fillFrom, fill, readFrom, read, capacity}
 use Rattle.rows.specs.Page.{state, byte1, blankOf, firstWords, firstPage, sumOver, capacityAll, page256}
 use Rattle.page.specs.Answer.{firstChecks, readFirstChecks, readFirstAnswer}
 use Rattle.filled.specs.Answer.{pageCapacityAnswer}
@@ -188,7 +188,7 @@ zero-words = words-written sound256 refl zeroRecord
 
 -- they have 44 times 23 data cells
 zero-capacity : capacityAll (firstWords 44 zeroRecord) ≡ 1012
-unfolding sumOver capacity read readFrom fill fillFrom firstWords zeckendorf weight seriesFrom first number bits cells bit
+unfolding sumOver capacity read readFrom fill setOrEnd fillFrom firstWords zeckendorf weight seriesFrom first number bits cells bit
 zero-capacity = refl
 
 -- so its kind has 1012
