@@ -1,7 +1,7 @@
 -- The claim of specs/Earlier.antt: what the earlier fill left of a first-round page is a filled page with the capacity that it had, so it is the
 -- fill of another first-round page, of which the demands speak.
 -- Assumes nothing.
-use mathlib.Core.Bool.{Bool}
+use mathlib.Core.Bool.{Bool, false}
 use mathlib.Core.List.{List, [], _∷_, _++_}
 use mathlib.Core.Logic.{inr}
 use mathlib.Core.Path.{_≡_, refl, sym, ap, ap₂, _∙_, subst}
@@ -32,15 +32,14 @@ use Rattle.demands.proofs.Demands.{demand1, demand2, demand3}
 -- ---- words
 
 row-earlier : (n : ℕ) (ws : List (List Bool)) → Row n ws → Row n (fillEarlierAll ws)
+unfolding fillEarlierAll fillEarlier
 row-earlier n ws r = (lengths ws ∙ r .0, words ws (r .1))
   where
     lengths : (vs : List (List Bool)) → length (fillEarlierAll vs) ≡ length vs
-    unfolding fillEarlierAll
     lengths [] = refl
     lengths (v ∷ vs) = ap suc (lengths vs)
 
     words : (vs : List (List Bool)) → Words vs → Words (fillEarlierAll vs)
-    unfolding fillEarlierAll fillEarlier
     words [] h = tt
     words (v ∷ vs) h = (length-earlier false v ∙ h .0, words vs (h .1))
 
