@@ -80,9 +80,18 @@ static int take_line(FILE *file, struct earlier *page)
     return 1;
 }
 
+static void check_page(const char *kind, const uint8_t *came,
+                       const uint8_t *earlier)
+{
+    uint8_t expected[WOM_PAGE_BYTES];
+
+    memcpy(expected, earlier, sizeof expected);
+    check_bytes(kind, came, expected, sizeof expected);
+}
+
 /* What the earlier fill left is measured and written as it was then, and a
  * record that is one byte too long refused. */
-static void check_filled(struct earlier *earlier)
+static void check_filled(const struct earlier *earlier)
 {
     uint8_t page[WOM_PAGE_BYTES];
     uint8_t record[WOM_SECOND_BYTES_MAX + 1] = {0};
@@ -94,12 +103,12 @@ static void check_filled(struct earlier *earlier)
     check_number("refusal",
                  wom_write_second(page, sizeof page, record, too_long),
                  (uint64_t)8 << 56 | earlier->capacity);
-    check_bytes("kept", page, earlier->filled, sizeof page);
+    check_page("kept", page, earlier->filled);
     check_number("written",
                  wom_write_second(page, sizeof page, earlier->record,
                                   earlier->length),
                  0);
-    check_bytes("page", page, earlier->second, sizeof page);
+    check_page("page", page, earlier->second);
 }
 
 static void check_second(const struct earlier *earlier)
