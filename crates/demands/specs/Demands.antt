@@ -1,5 +1,5 @@
--- The customer's three demands, clause by clause, in the terms of document 01 and of document 02, Changes 2 and 3. proofs/Demands.antt proves
--- each.
+-- The customer's three demands, clause by clause, in the terms of document 01 and of document 02, Changes 2, 3 and 6.
+-- proofs/Demands.antt proves each.
 -- The contracts in src/ of word, page, filled, second and wom tie the running code to `decodeAnswer`, `writeFirstAnswer`, `writeFirstLeaves`
 -- and the others of specs/Answer.antt in word, page, filled and second: what each operation answers, and what each buffer holds afterwards,
 -- for every value, word, page, record and output.
