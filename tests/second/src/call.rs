@@ -51,6 +51,8 @@ impl Entry {
     pub const OF_FIRST_PAGES: [Entry; 3] = [Entry::ReadFirst, Entry::PageCapacity, Entry::FillPage];
     /// The entries that take a filled page.
     pub const OF_FILLED_PAGES: [Entry; 2] = [Entry::PageCapacity, Entry::WriteSecond];
+    /// The entries that take a page after its fill: a filled page, or a second-round page.
+    pub const AFTER_THE_FILL: [Entry; 3] = [Entry::PageCapacity, Entry::WriteSecond, Entry::ReadSecond];
 
     pub fn number(self) -> usize {
         self as usize
@@ -138,21 +140,29 @@ pub struct Call {
     pub page: Vec<u8>,
     /// The data, the output or the record.
     pub other: Vec<u8>,
+    /// The first-round page that was filled for this page, by either fill, where that is told. It is no part of what
+    /// goes in.
+    pub first: Option<Vec<u8>>,
 }
 
 impl Call {
     pub fn of_word(entry: Entry, argument: u64) -> Call {
-        Call { entry, argument, page: Vec::new(), other: Vec::new() }
+        Call { entry, argument, page: Vec::new(), other: Vec::new(), first: None }
     }
 
     /// Page capacity and fill page have no other buffer: what is given for it is left out.
     pub fn of_page(entry: Entry, page: Vec<u8>, other: Vec<u8>) -> Call {
         let other = if entry.takes_other() { other } else { Vec::new() };
-        Call { entry, argument: 0, page, other }
+        Call { entry, argument: 0, page, other, first: None }
+    }
+
+    /// The call, with the first-round page that was filled for its page.
+    pub fn filled_from(self, first: &[u8]) -> Call {
+        Call { first: Some(first.to_vec()), ..self }
     }
 
     pub fn of_file(device: u32, pages: Vec<u8>, output: Vec<u8>) -> Call {
-        Call { entry: Entry::WriteFile, argument: u64::from(device), page: pages, other: output }
+        Call { entry: Entry::WriteFile, argument: u64::from(device), page: pages, other: output, first: None }
     }
 
     /// Performs the call; the buffers are then as they are after it.
@@ -201,6 +211,8 @@ mod tests {
         for entry in Entry::ALL {
             assert_eq!(entry.states().contains(&FIRST_ROUND), Entry::OF_FIRST_PAGES.contains(&entry));
             assert_eq!(entry.states().contains(&FILLED), Entry::OF_FILLED_PAGES.contains(&entry));
+            let after_the_fill = [FILLED, SECOND_ROUND].iter().any(|state| entry.states().contains(state));
+            assert_eq!(after_the_fill, Entry::AFTER_THE_FILL.contains(&entry));
             assert_eq!(entry.states().is_empty(), !entry.takes_page());
         }
     }

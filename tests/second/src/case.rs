@@ -89,7 +89,7 @@ pub struct Case {
 impl Case {
     /// The case of this call between canary bytes.
     pub fn new(seed: u64, part: Part, number: u64, call: &Call) -> Case {
-        let Call { entry, argument, page, other } = call;
+        let Call { entry, argument, page, other, .. } = call;
         Case {
             seed,
             part,

@@ -1,10 +1,11 @@
-//! Counters of the calls that a run has made, and of their answers.
+//! Counters of the calls that a run has made, and of their answers. A run is wrong unless it has met each that is wanted:
+//! among them, accepted pages as only versions before Change 6 left them, and pages that only Change 6 lets be accepted.
 
 use crate::answer::{number, pulses_in, value, Answer};
 use crate::call::{Call, Entry};
 use crate::case::Place;
 use crate::memory::Side;
-use crate::page::{words_of, FILLED, FIRST_ROUND, WORDS};
+use crate::page::{words_of, Words, FILLED, FIRST_ROUND, WORDS};
 use crate::word::{self, PULSES_MOST};
 use std::ops::RangeInclusive;
 
@@ -55,6 +56,44 @@ const FLAWS: [(Entry, Flaw); 8] = [
     (Entry::ReadSecond, Flaw::NotWellFormed),
 ];
 
+/// What a page after its fill has at the end of one word at least.
+#[derive(Clone, Copy)]
+enum WordEnd {
+    /// A cell 45 that only the earlier fill set.
+    Earlier,
+    /// Cells 44 and 45 at 0, with the data cells put to 0: before Change 6, 7 named such a word.
+    Open,
+}
+
+impl WordEnd {
+    const ALL: [WordEnd; 2] = [WordEnd::Earlier, WordEnd::Open];
+
+    fn name(self) -> &'static str {
+        match self {
+            WordEnd::Earlier => "a cell 45 that only the earlier fill set",
+            WordEnd::Open => "cells 44 and 45 at 0",
+        }
+    }
+
+    /// Whether a filled or second-round page of these words has it. That only the earlier fill set a cell is told from the
+    /// words of the first-round page that it filled: by the page alone, the first data may have set it.
+    fn is_on(self, words: &Words, first: Option<&Words>) -> bool {
+        match self {
+            WordEnd::Earlier => {
+                first.is_some_and(|first| words.iter().zip(first).any(|(cells, legal)| earlier(cells, legal)))
+            }
+            WordEnd::Open => words.iter().any(word::open),
+        }
+    }
+}
+
+/// Whether the word, but for its data, is what the earlier fill makes of this legal word, and not what the fill makes of
+/// it: then it has a cell 45 that only the earlier fill set.
+fn earlier(cells: &word::Cells, legal: &word::Cells) -> bool {
+    let separators = word::separators(cells);
+    separators == word::filled_earlier(legal) && separators != word::filled(legal)
+}
+
 /// The states that page capacity serves, with their names.
 const MEASURED: [(u8, &str); 2] = [(FIRST_ROUND, "in state 01"), (FILLED, "in state 03")];
 
@@ -75,6 +114,8 @@ pub struct Coverage {
     words: [[u64; WORDS]; FLAWS.len()],
     /// For each of `ENDS`: how often 8 named it.
     ends: [u64; 2],
+    /// For each of `Entry::AFTER_THE_FILL` and each of `WordEnd::ALL`: how often a page that has it was accepted.
+    word_ends: [[u64; 2]; 3],
     /// For each number of pulses, 0 to 23: how often fill word answered it.
     word_pulses: [u64; PULSES_MOST + 1],
     /// For each of `PAGE_PULSES`: how often fill page answered one of them.
@@ -88,6 +129,7 @@ impl Coverage {
             measured: [[[0; NUMBERS]; 2]; 6],
             words: [[0; WORDS]; FLAWS.len()],
             ends: [0; 2],
+            word_ends: [[0; 2]; 3],
             word_pulses: [0; PULSES_MOST + 1],
             page_pulses: [0; PAGE_PULSES.len()],
         }
@@ -113,7 +155,10 @@ impl Coverage {
     /// Counts the result, or the refusal's index.
     fn count_value(&mut self, call: &Call, answer: Answer) {
         match number(answer) {
-            0 => self.count_pulses(call.entry, value(answer)),
+            0 => {
+                self.count_pulses(call.entry, value(answer));
+                self.count_word_ends(call);
+            }
             7 => self.count_word(call, value(answer) as usize),
             8 => (0..2).filter(|&end| ENDS[end] == value(answer)).for_each(|end| self.ends[end] += 1),
             _ => {}
@@ -123,6 +168,18 @@ impl Coverage {
     fn count_word(&mut self, call: &Call, index: usize) {
         let flaw = (call.entry, Flaw::of(&call.page, index));
         (0..FLAWS.len()).filter(|&place| FLAWS[place] == flaw).for_each(|place| self.words[place][index] += 1);
+    }
+
+    /// Counts what an accepted page has at the ends of its words; on a first-round page these tell nothing.
+    fn count_word_ends(&mut self, call: &Call) {
+        let Some(entry) = Entry::AFTER_THE_FILL.iter().position(|&entry| entry == call.entry) else { return };
+        if call.page[0] == FIRST_ROUND {
+            return;
+        }
+        let (words, first) = (words_of(&call.page), call.first.as_deref().map(words_of));
+        for (end, met) in WordEnd::ALL.into_iter().zip(&mut self.word_ends[entry]) {
+            *met += u64::from(end.is_on(&words, first.as_ref()));
+        }
     }
 
     fn count_pulses(&mut self, entry: Entry, result: u64) {
@@ -154,7 +211,8 @@ impl Coverage {
         let measured = (0..2).flat_map(|state| self.wanted_measured(state));
         let buffers = Entry::ALL.into_iter().filter(|entry| entry.takes_buffers());
         let places = buffers.flat_map(|entry| self.wanted_places(entry));
-        answers.chain(words).chain(measured).chain(places).chain(ends).chain(self.wanted_pulses()).collect()
+        let wanted = answers.chain(words).chain(measured).chain(places).chain(ends);
+        wanted.chain(self.wanted_pulses()).chain(self.wanted_word_ends()).collect()
     }
 
     fn wanted_of(&self, entry: Entry) -> Vec<(String, u64)> {
@@ -191,6 +249,14 @@ impl Coverage {
         words.chain(pages).collect()
     }
 
+    /// Each entry that takes a page after its fill has accepted one with each of `WordEnd::ALL`.
+    fn wanted_word_ends(&self) -> Vec<(String, u64)> {
+        let entries = Entry::AFTER_THE_FILL.into_iter().zip(self.word_ends);
+        let each =
+            entries.flat_map(|(entry, met)| WordEnd::ALL.into_iter().zip(met).map(move |(end, met)| (entry, end, met)));
+        each.map(|(entry, end, met)| (format!("{} accepted, {}", entry.name(), end.name()), met)).collect()
+    }
+
     fn wanted_in_state(&self, state: usize, place: Place, number: u8) -> (String, u64) {
         let name = format!("page capacity {} {}, {}", answer_name(number), MEASURED[state].1, place.name());
         (name, self.measured[place.number()][state][usize::from(number)])
@@ -225,7 +291,14 @@ impl Coverage {
         if entry.refusals().contains(&7) {
             line += &format!("  7 at {} words", self.words_named(entry));
         }
-        line + &self.results_of(entry) + "\n"
+        line + &self.results_of(entry) + &self.word_ends_of(entry) + "\n"
+    }
+
+    /// How often the entry, if it takes a page after its fill, has accepted one with each of `WordEnd::ALL`.
+    fn word_ends_of(&self, entry: Entry) -> String {
+        let of_entry = Entry::AFTER_THE_FILL.into_iter().zip(self.word_ends).filter(|(of, _)| *of == entry);
+        let ends = of_entry.flat_map(|(_, met)| WordEnd::ALL.into_iter().zip(met));
+        ends.map(|(end, met)| format!("  {}: {met}", end.name())).collect()
     }
 
     /// What is told of the entry's results and indices.
@@ -301,8 +374,11 @@ fn far_numbers(entry: Entry) -> &'static [u8] {
 mod tests {
     use super::*;
     use crate::answer::Refusal;
-    use crate::cases::pages::{filled_page, first_page, values_with_pulses, with_byte, with_data_cell, with_word};
-    use crate::cases::words::value_with_pulses;
+    use crate::cases::pages::{
+        filled_page, filled_page_earlier, first_page, second_page, second_page_earlier, values_with_pulses, with_byte,
+        with_data_cell, with_value, with_word,
+    };
+    use crate::cases::words::{value_with_pulses, END_VALUES, OPEN_VALUES, SPARSE_VALUE};
     use crate::word::{legal_word, number_of};
 
     /// How many counters are still 0.
@@ -324,7 +400,7 @@ mod tests {
     fn a_call_counts_for_its_place_alone() {
         let mut coverage = Coverage::new();
         let all = missing(&coverage);
-        let call = Call::of_page(Entry::WriteSecond, vec![FILLED; 256], Vec::new());
+        let call = Call::of_page(Entry::WriteSecond, filled_page(&first_page(&[0; WORDS])), Vec::new());
         for (met, place) in (1..).zip([Place::Guarded(Side::Before), Place::Guarded(Side::After), Place::Canaries]) {
             coverage.count(&call, place, Ok(0));
             assert_eq!(missing(&coverage), all - met);
@@ -360,6 +436,71 @@ mod tests {
             assert_eq!(met_by(Entry::PageCapacity, page.clone()), ["page capacity accepted".to_string(), accepted]);
             let refused = format!("page capacity 6 {state}, between canary bytes");
             assert_eq!(met_by(Entry::PageCapacity, with_byte(page, 1, 1)), ["page capacity 6".to_string(), refused]);
+        }
+    }
+
+    /// The ends that an accepted page of the entry counts for, by name. The page is told to be filled from this one.
+    fn ends_met(entry: Entry, page: Vec<u8>, first: Option<&[u8]>) -> Vec<String> {
+        let call = Call::of_page(entry, page, if entry == Entry::ReadSecond { vec![0; 126] } else { Vec::new() });
+        assert!(call.clone().perform().is_ok());
+        let call = first.map_or(call.clone(), |first| call.filled_from(first));
+        let start = format!("{} accepted, ", entry.name());
+        let named = met_by_call(&call).into_iter().filter_map(|name| name.strip_prefix(&start).map(str::to_string));
+        named.collect()
+    }
+
+    /// The pages of each fill over this first-round page, as the entry takes them.
+    fn pages_of_both_fills(entry: Entry, first: &[u8]) -> [Vec<u8>; 2] {
+        match entry {
+            Entry::ReadSecond => [second_page(first, &[0x96; 82]), second_page_earlier(first, &[0x96; 82])],
+            _ => [filled_page(first), filled_page_earlier(first)],
+        }
+    }
+
+    /// A page of either fill counts for the end that this fill alone leaves: on all words, or on one; and a page on
+    /// which the two fills leave the same, for none.
+    #[test]
+    fn the_ends_of_words_count() {
+        let (earlier, open) = (WordEnd::Earlier.name(), WordEnd::Open.name());
+        let alone = (0..WORDS).map(|index| with_value([SPARSE_VALUE; WORDS], index, 3));
+        for values in OPEN_VALUES.map(|value| [value; WORDS]).into_iter().chain(alone) {
+            let first = first_page(&values);
+            for entry in Entry::AFTER_THE_FILL {
+                let [now, before] = pages_of_both_fills(entry, &first);
+                assert_eq!(ends_met(entry, now, Some(&first)), [open]);
+                assert_eq!(ends_met(entry, before.clone(), Some(&first)), [earlier]);
+                // The page alone does not tell who set cell 45.
+                assert_eq!(ends_met(entry, before, None), [""; 0]);
+            }
+        }
+        for value in END_VALUES.into_iter().filter(|value| !OPEN_VALUES.contains(value)) {
+            let first = first_page(&[value; WORDS]);
+            for entry in Entry::AFTER_THE_FILL {
+                for page in pages_of_both_fills(entry, &first) {
+                    assert_eq!(ends_met(entry, page, Some(&first)), [""; 0]);
+                }
+            }
+        }
+    }
+
+    /// A first-round page may end in an open word, which counts for nothing.
+    #[test]
+    fn the_ends_of_first_round_words_do_not_count() {
+        for value in OPEN_VALUES {
+            let first = first_page(&[value; WORDS]);
+            assert_eq!(ends_met(Entry::PageCapacity, first.clone(), Some(&first)), [""; 0]);
+        }
+    }
+
+    /// Two ends for each of three entries, and the table tells how often each was met.
+    #[test]
+    fn every_end_is_wanted() {
+        let is_end = |name: &str| WordEnd::ALL.iter().any(|end| name.ends_with(end.name()));
+        let wanted = Coverage::new().wanted();
+        assert_eq!(wanted.iter().filter(|(name, _)| is_end(name)).count(), 6);
+        let table = Coverage::new().table();
+        for end in WordEnd::ALL {
+            assert_eq!(table.matches(&format!("  {}: 0", end.name())).count(), 3);
         }
     }
 

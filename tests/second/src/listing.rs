@@ -121,6 +121,28 @@ mod tests {
         }
     }
 
+    /// Value 3 in each word: the last byte is cells 38 to 45 of word 43, of which the fill sets 38 and 40, and the first data
+    /// set 43. Versions before Change 6 set cell 45 as well.
+    #[test]
+    fn filled_pages_that_end_in_cell_43() {
+        let mut filled = vec![0; PAGE_BYTES];
+        page::write_first(&mut filled, &[0, 0, 0, 3].repeat(44)).unwrap();
+        page::fill_page(&mut filled).unwrap();
+        assert_eq!(filled[255], 0b1010_0100);
+        for (byte, line) in [
+            (0b1010_0100, "0 filled 968\n"),
+            (0b1010_0101, "0 filled 968\n"),
+            (0b1010_0000, "0 bad 7\n"),
+            (0b1010_0001, "0 bad 7\n"),
+            (0b1010_0110, "0 bad 7\n"),
+            (0b1000_0100, "0 bad 7\n"),
+            (0b1000_0101, "0 bad 7\n"),
+        ] {
+            filled[255] = byte;
+            assert_eq!(listing(&filled), line, "{byte:08b}");
+        }
+    }
+
     #[test]
     fn empty_input_prints_nothing() {
         assert_eq!(listing(&[]), "");

@@ -191,8 +191,11 @@ pub fn read_second(page: &[u8], output: &mut [u8]) -> Answer {
 #[cfg(test)]
 mod tests {
     use super::*;
-    use crate::cases::pages::{self, any_first, any_record, values_with_pulses, with_value};
-    use crate::cases::words::{unwritten, SPARSE_VALUE};
+    use crate::cases::pages::{
+        self, any_first, any_record, filled_page_earlier, second_page_earlier, values_with_pulses,
+        with_cell_45_flipped, with_value, with_word, without_separator,
+    };
+    use crate::cases::words::{unwritten, END_VALUES, OPEN_SPARSE_VALUE, OPEN_VALUES, SPARSE_VALUE};
     use crate::random::Random;
 
     fn first_page(value: u32) -> Vec<u8> {
@@ -223,13 +226,13 @@ mod tests {
         page
     }
 
-    /// The outcome as document 01 defines it, from the first-round page: it "fills all 44 words, puts the record's bits
-    /// (highest bit of each byte first) in the data cells, leaves the spare data cells 0, and writes byte 1 and state
-    /// 07".
-    fn outcome_by_the_rules(first: &[u8], record: &[u8]) -> Vec<u8> {
+    /// The outcome as document 01 defines it, from the first-round page, with this fill: it "fills all 44 words, puts the
+    /// record's bits (highest bit of each byte first) in the data cells, leaves the spare data cells 0, and writes byte 1
+    /// and state 07".
+    fn outcome_by_the_rules(first: &[u8], record: &[u8], fill: fn(&Cells) -> Cells) -> Vec<u8> {
         let mut bits = bits_of(record);
         let words = words_of(first).map(|legal| {
-            let mut cells = word::filled(&legal);
+            let mut cells = fill(&legal);
             word::data_cells(&cells).into_iter().for_each(|cell| cells[cell] = bits.next().unwrap_or(false));
             cells
         });
@@ -245,7 +248,7 @@ mod tests {
         let mut page = filled.clone();
         assert_eq!(write_second(&mut page, record), Ok(0));
         check_cells(&filled, &page);
-        assert_eq!(page, outcome_by_the_rules(first, record));
+        assert_eq!(page, outcome_by_the_rules(first, record, word::filled));
         let mut output = vec![0xA5; record.len() + 1];
         assert_eq!(read_second(&page, &mut output), Ok(record.len() as u64));
         assert_eq!(output, [record, &[0xA5]].concat());
@@ -284,7 +287,7 @@ mod tests {
     /// Each marked value on all words: 44 times the pulses of the word.
     #[test]
     fn pulses_of_pages_of_one_value() {
-        let marked = [(0, 23), (1, 22), (2, 22), (3, 22), (77, 20), (243, 19), (3_889_371_024, 0)];
+        let marked = [(0, 23), (1, 22), (2, 22), (3, 21), (77, 20), (243, 19), (3_889_371_024, 0)];
         for (value, pulses) in marked {
             check_pulses([value; WORDS], 44 * pulses);
         }
@@ -425,15 +428,179 @@ mod tests {
         }
     }
 
-    /// A separator that is missing, a data cell that is set, and any other cell that is set.
+    /// A separator that is missing, a data cell that is set, and any other cell that is set. After a separator in cell 43,
+    /// cell 45 is the one that may be either, on pages of both fills.
     #[test]
     fn every_cell_of_a_filled_page_flipped() {
-        for value in [0, 77, SPARSE_VALUE, 2_971_215_074] {
-            let filled = filled_page(&first_page(value));
-            for place in 0..WORDS * CELLS {
+        for value in [0, 77, SPARSE_VALUE, 2_971_215_074].into_iter().chain(OPEN_VALUES) {
+            let first = first_page(value);
+            for filled in [filled_page(&first), filled_page_earlier(&first)] {
+                let capacity = page_capacity(&first);
+                let after_43 = words_of(&filled)[0][43];
+                for place in 0..WORDS * CELLS {
+                    let mut page = filled.clone();
+                    page[3 + place / 8] ^= 0x80 >> (place % 8);
+                    let either = after_43 && place % CELLS == 45;
+                    let refused = Err(Refusal::word(place / CELLS));
+                    assert_eq!(page_capacity(&page), if either { capacity } else { refused });
+                }
+            }
+        }
+    }
+
+    /// First-round pages of open values, on all words, on one word alone, and of any values.
+    fn firsts_with_open_words() -> Vec<Vec<u8>> {
+        let mut random = Random::new(10);
+        let alone = (0..WORDS).map(|index| with_value([SPARSE_VALUE; WORDS], index, OPEN_VALUES[index % 3]));
+        let pages = OPEN_VALUES.map(|value| [value; WORDS]).into_iter().chain(alone);
+        let mut firsts: Vec<_> = pages.map(|values| pages::first_page(&values)).collect();
+        firsts.extend((0..40).map(|_| any_first(&mut random)));
+        firsts
+    }
+
+    /// A page that the earlier fill left is accepted with the capacity of its first-round page, takes the same records,
+    /// and its outcome, which is the one that earlier versions left, gives them back.
+    #[test]
+    fn pages_of_the_earlier_fill() {
+        let mut random = Random::new(11);
+        let mut differing = 0;
+        for first in firsts_with_open_words() {
+            let filled = filled_page_earlier(&first);
+            differing += usize::from(filled != filled_page(&first));
+            check_cells(&filled_page(&first), &filled);
+            let capacity = capacity_of(&words_of(&first));
+            assert_eq!(page_capacity(&filled), Ok(capacity as u64));
+            let most = capacity / 8;
+            for length in [0, 1, 82, random.between(0, most), most] {
+                let record = any_record(&mut random, length);
                 let mut page = filled.clone();
-                page[3 + place / 8] ^= 0x80 >> (place % 8);
-                assert_eq!(page_capacity(&page), Err(Refusal::word(place / CELLS)));
+                assert_eq!(write_second(&mut page, &record), Ok(0));
+                check_cells(&filled, &page);
+                assert_eq!(page, outcome_by_the_rules(&first, &record, word::filled_earlier));
+                assert_eq!(page, second_page_earlier(&first, &record));
+                let mut output = vec![0xA5; length + 1];
+                assert_eq!(read_second(&page, &mut output), Ok(length as u64));
+                assert_eq!(output, [&record[..], &[0xA5]].concat());
+            }
+            let mut page = filled.clone();
+            assert_eq!(write_second(&mut page, &vec![0x96; most + 1]), Err(Refusal::record_length(capacity)));
+            assert_eq!(page, filled);
+        }
+        assert!(differing > 70, "{differing}");
+    }
+
+    #[test]
+    fn capacities_of_pages_of_the_earlier_fill() {
+        for (value, capacity) in [(3, 968), (OPEN_SPARSE_VALUE, 660), (77, 968)] {
+            check_capacity(&first_page(value), capacity, capacity / 8);
+            assert_eq!(page_capacity(&filled_page_earlier(&first_page(value))), Ok(capacity as u64));
+        }
+    }
+
+    /// A page of the earlier fill is also what the fill makes of some first-round page.
+    #[test]
+    fn pages_of_the_earlier_fill_come_from_first_round_pages() {
+        for first in firsts_with_open_words() {
+            let filled = filled_page_earlier(&first);
+            let other = words_of(&filled).map(|cells| std::array::from_fn(|cell| cell > 0 && cells[cell]));
+            let mut page = first.clone();
+            put_words(&mut page, &other);
+            assert_eq!(filled_page(&page), filled);
+        }
+    }
+
+    /// What read second gives: the length and the record, or the refusal.
+    fn record_of(page: &[u8]) -> Result<Vec<u8>, Refusal> {
+        let mut output = vec![0; SECOND_BYTES_MOST];
+        let length = read_second(page, &mut output)?;
+        output.truncate(length as usize);
+        Ok(output)
+    }
+
+    /// The record with one bit flipped, counted over its bytes, the highest bit of a byte first.
+    fn with_bit_flipped(mut record: Vec<u8>, bit: usize) -> Vec<u8> {
+        record[bit / 8] ^= 0x80 >> (bit % 8);
+        record
+    }
+
+    /// What there must be with cell 45 of one word flipped on this second-round page, which is sound. After a separator
+    /// in cell 43 it is no data cell and not asked for: the record stays. After one in cell 44 it is a data cell: a bit of
+    /// the record, or a spare one, which must not be set. After one in cell 42 it is the separator that cell 44 needs.
+    fn with_cell_45(page: &[u8], index: usize, record: &[u8]) -> Result<Vec<u8>, Refusal> {
+        let words = words_of(page);
+        let separators = word::separators(&words[index]);
+        if separators[43] {
+            return Ok(record.to_vec());
+        }
+        if !separators[44] {
+            return Err(Refusal::word(index));
+        }
+        let bit = data_cells_of(&words).iter().position(|&found| found == (index, 45)).expect("a data cell");
+        if bit < 8 * record.len() {
+            Ok(with_bit_flipped(record.to_vec(), bit))
+        } else {
+            Err(Refusal::DATA_CELLS)
+        }
+    }
+
+    /// Pages whose words end in each way, by turns.
+    fn firsts_of_every_end() -> Vec<Vec<u8>> {
+        let values = |turn: usize| std::array::from_fn(|index| END_VALUES[(index + turn) % END_VALUES.len()]);
+        (0..END_VALUES.len()).map(|turn| pages::first_page(&values(turn))).collect()
+    }
+
+    /// Cell 45 of each word by itself, on filled pages and on second-round pages of both fills.
+    #[test]
+    fn cell_45_alone() {
+        let mut random = Random::new(12);
+        for first in firsts_of_every_end() {
+            let capacity = page_capacity(&first);
+            for filled in [filled_page(&first), filled_page_earlier(&first)] {
+                for index in 0..WORDS {
+                    let page = with_cell_45_flipped(filled.clone(), index);
+                    let accepted = words_of(&filled)[index][43];
+                    assert_eq!(page_capacity(&page), if accepted { capacity } else { Err(Refusal::word(index)) });
+                }
+                for length in [0, 40, 82] {
+                    let record = any_record(&mut random, length);
+                    let mut second = filled.clone();
+                    assert_eq!(write_second(&mut second, &record), Ok(0));
+                    for index in 0..WORDS {
+                        let page = with_cell_45_flipped(second.clone(), index);
+                        assert_eq!(record_of(&page), with_cell_45(&second, index, &record));
+                    }
+                }
+            }
+        }
+    }
+
+    /// A page that lacks another cell of the fill than 45: in any word, on filled pages of both fills, and under a record
+    /// of zeros, where each cell that is set is a separator.
+    #[test]
+    fn another_cell_of_the_fill_is_missing() {
+        let mut random = Random::new(13);
+        for first in firsts_of_every_end() {
+            for filled in [filled_page(&first), filled_page_earlier(&first)] {
+                for index in 0..WORDS {
+                    let page = without_separator(&mut random, filled.clone(), index);
+                    check_refused(&page, Refusal::word(index));
+                    let second = [&[SECOND_ROUND, 60, 0], &page[3..]].concat();
+                    assert_eq!(record_of(&second), Err(Refusal::word(index)));
+                }
+            }
+        }
+    }
+
+    /// Each cell but 45 that the fill sets in a word is asked for, whatever cell 45 is.
+    #[test]
+    fn every_other_cell_of_the_fill_is_asked_for() {
+        for (value, end) in END_VALUES.into_iter().flat_map(|value| [(value, false), (value, true)]) {
+            let cells = word::filled(&word::legal_word(value));
+            // With cell 45 in place of cell 44, a word may be that of another fill.
+            let asked_for = (0..if end { 44 } else { 45 }).filter(|&cell| cells[cell]);
+            for missing in asked_for {
+                let word = std::array::from_fn(|cell| cell != missing && (cells[cell] || cell == 45 && end));
+                check_refused(&with_word(filled_page(&first_page(0)), 30, word), Refusal::word(30));
             }
         }
     }

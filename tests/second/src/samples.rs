@@ -3,7 +3,7 @@
 use crate::cases::pages::*;
 use crate::cases::words::{
     any_value, illegal, sum_too_large, value_with_pulses, with_bare_hole, with_hole, with_neighbours, Hole, EDGE_VALUE,
-    SPARSE_VALUE,
+    OPEN_ODD_VALUE, OPEN_SPARSE_VALUE, SPARSE_VALUE,
 };
 use crate::listing::{described, Kind};
 use crate::page::{data_cells_of, words_of, PAGE_BYTES, SECOND_BYTES_MOST, WORDS};
@@ -20,7 +20,7 @@ pub fn listing_pages() -> Vec<u8> {
     let states = [0x02, 0x05, 0x09, 0xFF].map(|state| with_byte(any_first(&mut random), 0, state));
     let filled_states = [0x02, 0x13, 0x83].map(|state| with_byte(any_filled(&mut random), 0, state));
     let last = vec![any_filled(&mut random)[..PAGE_BYTES - 1].to_vec()];
-    let kinds = [blanks, firsts, filleds, seconds, bad_firsts, bad_filleds, bad_seconds];
+    let kinds = [blanks, firsts, filleds, seconds, bad_firsts, bad_filleds, bad_seconds, both_fills, cells_45, lacking];
     let kinds = kinds.map(|kind| kind(&mut random));
     kinds.into_iter().chain([states.to_vec(), filled_states.to_vec(), last]).flatten().flatten().collect()
 }
@@ -31,7 +31,8 @@ pub fn listing_pages() -> Vec<u8> {
 pub fn sheet_pages() -> Vec<u8> {
     let mut random = Random::new(SHEET_SEED);
     let kinds = [blanks, firsts, filleds, seconds, seconds_of_80, bad_firsts, bad_filleds, bad_seconds, unknown_states];
-    let pages = kinds.map(|kind| kind(&mut random)).concat();
+    let kinds = kinds.into_iter().chain([both_fills, cells_45, lacking]);
+    let pages = kinds.flat_map(|kind| kind(&mut random)).collect();
     let end = [blank(&mut random), first_page(&[0; WORDS])[..PAGE_BYTES - 1].to_vec()];
     [mixed(&mut random, pages), end.to_vec()].concat().concat()
 }
@@ -173,10 +174,10 @@ fn bad_filleds(random: &mut Random) -> Vec<Vec<u8>> {
     [&headers, &words[..], &data, &others].concat()
 }
 
-/// Holes of cell 0 alone and of cell 45 alone.
+/// Holes of cell 0 alone and of cell 44 alone, for a hole of cell 45 does not count.
 fn end_holes() -> [Cells; 2] {
     let start = std::array::from_fn(|cell| cell % 2 == 0 && cell > 0);
-    let end = std::array::from_fn(|cell| cell % 2 == 1 && cell < 45);
+    let end = std::array::from_fn(|cell| cell % 2 == 0 && cell < 44);
     [start, end]
 }
 
@@ -196,6 +197,44 @@ fn bad_seconds(random: &mut Random) -> Vec<Vec<u8>> {
     [bad, holes.to_vec()].concat()
 }
 
+/// Filled pages with open words, and second-round pages over them with the longest records and one of 40 bytes; and the
+/// same as versions before Change 6 left them.
+fn both_fills(random: &mut Random) -> Vec<Vec<u8>> {
+    let any = first_page(&[(); WORDS].map(|()| any_value(random)));
+    let firsts = [(first_page(&[3; WORDS]), 121), (first_page(&[OPEN_SPARSE_VALUE; WORDS]), 82), (any, 40)];
+    let mut pages = Vec::new();
+    for ((first, length), fill) in firsts.iter().flat_map(|first| FILLINGS.map(|fill| (first, fill))) {
+        let filled = fill(first);
+        pages.push(written_over(filled.clone(), &any_record(random, *length)));
+        pages.push(filled);
+    }
+    pages
+}
+
+/// Filled pages, and second-round pages with records of 60 bytes, with cell 45 of the first or the last word flipped. It
+/// may be either after a separator in cell 43, as values 3 and 4 have it; the word of value 1 needs it; and in the last
+/// word of value 0 it is a spare data cell. At the end, such pages whose last word has the odd cells 1 to 43: a hole of
+/// cell 45 alone, which is none.
+fn cells_45(random: &mut Random) -> Vec<Vec<u8>> {
+    let mut pages = Vec::new();
+    for (value, index) in [(3, 0), (4, 43), (1, 0), (0, 43)] {
+        let filled = filled_page(&first_page(&[value; WORDS]));
+        pages.push(with_cell_45_flipped(written_over(filled.clone(), &random.bytes(60)), index));
+        pages.push(with_cell_45_flipped(filled, index));
+    }
+    let filled = any_filled(random);
+    let second = written_over(filled.clone(), &random.bytes(60));
+    pages.extend([second, filled].map(|page| with_word(page, WORDS - 1, legal_word(OPEN_ODD_VALUE))));
+    pages
+}
+
+/// Filled pages of both fills that lack another cell of the fill than 45, in the first or the last word.
+fn lacking(random: &mut Random) -> Vec<Vec<u8>> {
+    let first = first_page(&[3; WORDS]);
+    let filled = [(filled_page(&first), 0), (filled_page_earlier(&first), WORDS - 1)];
+    filled.map(|(filled, index)| without_separator(random, filled, index)).to_vec()
+}
+
 #[cfg(test)]
 mod tests {
     use super::*;
@@ -210,10 +249,33 @@ mod tests {
         for bad in [1, 4, 5, 6, 7, 9] {
             assert!(met.contains(&format!("bad {bad}").as_str()), "bad {bad}");
         }
-        let kinds = ["blank 0", "first 660", "first 1012", "filled 660", "filled 1012"];
-        for kind in kinds.into_iter().chain(["second 0", "second 1", "second 82", "second 126"]) {
+        let kinds = ["blank 0", "first 660", "first 1012", "filled 660", "filled 968", "filled 1012"];
+        for kind in kinds.into_iter().chain(["second 0", "second 1", "second 82", "second 121", "second 126"]) {
             assert!(met.contains(&kind), "{kind}");
         }
+    }
+
+    /// What the listing says of pages of the fill, and of pages as versions before Change 6 left them, is the same.
+    #[test]
+    fn pages_of_both_fills() {
+        let pages = both_fills(&mut Random::new(10));
+        let pairs = pages.chunks(4).flat_map(|four| [(&four[0], &four[2]), (&four[1], &four[3])]);
+        for (now, earlier) in pairs.clone() {
+            assert_ne!(now[3..], earlier[3..]);
+            assert_eq!(described(now), described(earlier));
+        }
+        let lines: Vec<String> = pairs.map(|(now, _)| described(now).to_string()).collect();
+        assert_eq!(lines[..5], ["second 121", "filled 968", "second 82", "filled 660", "second 40"]);
+    }
+
+    #[test]
+    fn pages_with_cell_45_flipped_and_pages_that_lack_another_cell() {
+        let lines = |pages: Vec<Vec<u8>>| pages.iter().map(|page| described(page).to_string()).collect::<Vec<_>>();
+        let lines_45 = lines(cells_45(&mut Random::new(10)));
+        let flipped = ["second 60", "filled 968", "second 60", "filled 968", "bad 7", "bad 7", "bad 9", "bad 7"];
+        assert_eq!(lines_45[..8], flipped);
+        assert!(lines_45[8] == "second 60" && lines_45[9].starts_with("filled "), "{lines_45:?}");
+        assert_eq!(lines(lacking(&mut Random::new(10))), ["bad 7", "bad 7"]);
     }
 
     /// In state 03 there are `filled` pages, and no other number of `bad` than 6 and 7.
@@ -223,18 +285,18 @@ mod tests {
         let filled = pages.chunks(PAGE_BYTES).filter(|piece| piece.len() == PAGE_BYTES && piece[0] == 0x03);
         let kinds: Vec<String> = filled.map(|page| listing(page).trim_end().to_string()).collect();
         let count = |kind: &str| kinds.iter().filter(|met| met.starts_with(kind)).count();
-        assert_eq!((kinds.len(), count("0 filled"), count("0 bad 6"), count("0 bad 7")), (24, 6, 6, 12));
+        assert_eq!((kinds.len(), count("0 filled"), count("0 bad 6"), count("0 bad 7")), (37, 15, 6, 16));
     }
 
-    /// The gain of the sheet's pages: of 4 first-round and 6 filled pages and 3 records of no byte, and of records of 1,
-    /// 82, 126 and twice 80 bytes.
-    const GAIN: i64 = 13 * -640 - 632 + 16 + 368;
+    /// The gain of the sheet's pages: of 4 first-round and 15 filled pages and 3 records of no byte; of records of 1, 82,
+    /// 126 and twice 80 bytes; and, with words that end in cell 43, of twice 121, 82 and 40 and of three times 60 bytes.
+    const GAIN: i64 = 22 * -640 - 632 + 16 + 368 + 2 * (328 + 16 - 320) - 3 * 160;
 
     /// The five counts are different from each other and from 0, and the gain is below 0.
     #[test]
     fn the_sheet_of_the_pages() {
-        assert_eq!(sheet(&sheet_pages()), "pages 60 blank 2 first 4 filled 6 second 8 bad 40 gain -8568\n");
-        assert_eq!(GAIN, -8_568);
+        assert_eq!(sheet(&sheet_pages()), "pages 84 blank 2 first 4 filled 15 second 17 bad 46 gain -14760\n");
+        assert_eq!(GAIN, -14_760);
     }
 
     #[test]
@@ -300,7 +362,7 @@ mod tests {
     #[test]
     fn the_last_piece_of_the_sheet() {
         let pages = sheet_pages();
-        let (whole, last) = pages.split_at(59 * PAGE_BYTES);
+        let (whole, last) = pages.split_at(83 * PAGE_BYTES);
         assert_eq!((last.len(), whole.ends_with(&[0])), (PAGE_BYTES - 1, true));
         assert_eq!(described(&[last, &[0]].concat()), Described { kind: Kind::First, number: 1_012 });
     }

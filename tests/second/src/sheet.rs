@@ -28,7 +28,9 @@ pub fn sheet(input: &[u8]) -> String {
 #[cfg(test)]
 mod tests {
     use super::*;
-    use crate::cases::pages::{any_page, filled_page, first_page, second_page, with_byte, with_data_cell, with_word};
+    use crate::cases::pages::{
+        any_page, filled_page, first_page, second_page, with_byte, with_data_cell, with_word, written_over, FILLINGS,
+    };
     use crate::cases::words::SPARSE_VALUE;
     use crate::listing::{listing, PAGES_MOST};
     use crate::page::{PAGE_BYTES, WORDS};
@@ -76,20 +78,22 @@ mod tests {
     /// The capacity is not in the gain.
     #[test]
     fn first_round_and_filled_pages() {
-        for value in [0, 1, 77, SPARSE_VALUE] {
+        for value in [0, 1, 3, 77, SPARSE_VALUE] {
             let first = first_page(&[value; WORDS]);
             assert_eq!(sheet(&first), "pages 1 blank 0 first 1 filled 0 second 0 bad 0 gain -640\n");
-            let filled = filled_page(&first);
-            assert_eq!(sheet(&filled), "pages 1 blank 0 first 0 filled 1 second 0 bad 0 gain -640\n");
+            for filled in FILLINGS.map(|fill| fill(&first)) {
+                assert_eq!(sheet(&filled), "pages 1 blank 0 first 0 filled 1 second 0 bad 0 gain -640\n");
+            }
         }
     }
 
-    /// The sheet of one second-round page with a record of this length has this gain.
+    /// The sheet of one second-round page with a record of this length, over either fill, has this gain.
     fn check_second(first: &[u8], length: usize, gain: i64) {
-        for byte in [0x00, 0x96, 0xFF] {
-            let page = second_page(first, &vec![byte; length]);
-            let text = format!("pages 1 blank 0 first 0 filled 0 second 1 bad 0 gain {gain}\n");
-            assert_eq!(sheet(&page), text);
+        let text = format!("pages 1 blank 0 first 0 filled 0 second 1 bad 0 gain {gain}\n");
+        for record in [0x00, 0x96, 0xFF].map(|byte| vec![byte; length]) {
+            for page in FILLINGS.map(|fill| written_over(fill(first), &record)) {
+                assert_eq!(sheet(&page), text);
+            }
         }
     }
 
@@ -98,6 +102,7 @@ mod tests {
     fn second_round_pages() {
         for (length, gain) in [(0, -640), (1, -632), (79, -8), (80, 0), (81, 8), (82, 16)] {
             check_second(&first_page(&[SPARSE_VALUE; WORDS]), length, gain);
+            check_second(&first_page(&[3; WORDS]), length, gain);
             check_second(&most(), length, gain);
         }
         check_second(&most(), 126, 368);

@@ -8,7 +8,7 @@ use crate::cases::lengths::{resized, FAR_RECORD_LENGTHS, WRONG_PAGE_LENGTHS};
 use crate::cases::pages::*;
 use crate::cases::words::{
     any_value, sum_too_large, value_with_pulses, with_bare_hole, with_hole, with_neighbours, with_one_data_cell, Hole,
-    EDGE_VALUE, LISTED_VALUES, ODD_VALUE, SPARSE_VALUE,
+    EDGE_VALUE, END_VALUES, LISTED_VALUES, ODD_VALUE, OPEN_ODD_VALUE, OPEN_SPARSE_VALUE, SPARSE_VALUE,
 };
 use crate::file::file_bytes;
 use crate::page::{data_cells_of, words_of, FIRST_BYTES, PAGE_BYTES, WORDS};
@@ -17,6 +17,9 @@ use crate::word::{cells_with_sum, legal_word, number_of, CELLS, LARGEST_SUM, LAR
 use std::fmt::Write;
 
 const SEED: u64 = 660;
+
+/// For the calls about the ends of words.
+const END_SEED: u64 = 968;
 
 /// The longest buffer of a vector.
 const LENGTH_MOST: usize = 1_024;
@@ -31,6 +34,17 @@ const CELL_0_VALUES: [u32; 3] = [ODD_VALUE, 2_971_215_073, EDGE_VALUE];
 struct Script {
     random: Random,
     calls: Vec<Call>,
+}
+
+/// The calls about the ends of words, and about pages as versions before Change 6 left them. Their bytes are drawn apart
+/// from those of the other calls.
+fn end_calls() -> Vec<Call> {
+    let mut script = Script { random: Random::new(END_SEED), calls: Vec::new() };
+    script.both_fills();
+    script.cells_45();
+    script.lacking();
+    script.open_pages();
+    script.calls
 }
 
 /// All calls of the vectors.
@@ -60,8 +74,10 @@ pub fn calls() -> Vec<Call> {
     script.words();
     script.cell_0_values();
     script.pulses();
+    let before_the_files = script.calls.len();
     script.files();
     script.pages_lengths();
+    script.calls.splice(before_the_files..before_the_files, end_calls());
     script.calls
 }
 
@@ -420,6 +436,81 @@ impl Script {
         }
     }
 
+    /// First-round pages on which the earlier fill sets a cell 45 that the fill leaves at 0: in all words, with a middle and
+    /// with the least capacity, in the last word alone, and in some words.
+    fn firsts_with_open_words(&mut self) -> [Vec<u8>; 5] {
+        let last = with_value([SPARSE_VALUE; WORDS], WORDS - 1, OPEN_ODD_VALUE);
+        let ends = std::array::from_fn(|index| END_VALUES[index % END_VALUES.len()]);
+        let any = [(); WORDS].map(|()| self.random.draw() as u32);
+        [[3; WORDS], [OPEN_SPARSE_VALUE; WORDS], last, ends, any].map(|values| first_page(&values))
+    }
+
+    /// Pages as versions before Change 6 left them: they are measured, beside the pages that the fill leaves; a record
+    /// that fits and the longest are written over them and read back, and one byte more is refused.
+    fn both_fills(&mut self) {
+        for first in self.firsts_with_open_words() {
+            for filled in FILLINGS.map(|fill| fill(&first)) {
+                self.page_from(&first, Entry::PageCapacity, &filled, 0);
+            }
+            let (earlier, most) = (filled_page_earlier(&first), most_bytes(&first));
+            let any = self.random.between(0, most - 1);
+            for length in [any, most] {
+                self.page_from(&first, Entry::WriteSecond, &earlier, length);
+                let second = written_over(earlier.clone(), &self.random.bytes(length));
+                self.page_from(&first, Entry::ReadSecond, &second, length);
+            }
+            self.page_from(&first, Entry::WriteSecond, &earlier, most + 1);
+        }
+    }
+
+    /// A call over a page that was filled, by either fill, from this first-round page.
+    fn page_from(&mut self, first: &[u8], entry: Entry, page: &[u8], length: usize) {
+        let other = self.random.bytes(length);
+        self.add(Call::of_page(entry, page.to_vec(), other).filled_from(first));
+    }
+
+    /// Cell 45 of chosen words flipped, of words that end in each way: on filled pages, and under records of 20 bytes; by
+    /// turns, the pages are those of one fill and of the other.
+    fn cells_45(&mut self) {
+        for (turn, index) in INDICES.into_iter().enumerate() {
+            for end in 0..END_VALUES.len() {
+                let first = first_page(&with_value(any_values(&mut self.random), index, END_VALUES[end]));
+                let filled = FILLINGS[(turn + end) % 2](&first);
+                let second = written_over(filled.clone(), &self.random.bytes(20));
+                let entry = if turn == end { Entry::WriteSecond } else { Entry::PageCapacity };
+                self.page_with(entry, &with_cell_45_flipped(filled, index), 20);
+                self.page_with(Entry::ReadSecond, &with_cell_45_flipped(second, index), 20);
+            }
+        }
+    }
+
+    /// Filled pages of either fill that lack another cell of the fill than 45, in chosen words; and such cells under a
+    /// record of zeros.
+    fn lacking(&mut self) {
+        for (turn, index) in INDICES.into_iter().enumerate() {
+            let first = any_first(&mut self.random);
+            for filled in FILLINGS.map(|fill| fill(&first)) {
+                let page = without_separator(&mut self.random, filled, index);
+                self.page_with(Entry::PageCapacity, &page, 0);
+                self.page_with(Entry::ReadSecond, &[&[0x07, 10, 0], &page[3..]].concat(), 10);
+                if turn % 4 == 0 {
+                    self.page_with(Entry::WriteSecond, &page, 10);
+                }
+            }
+        }
+    }
+
+    /// Cells that are sound in states 01, 03 and 07 alike, with open words: the state alone decides.
+    fn open_pages(&mut self) {
+        let first = first_page(&std::array::from_fn(|index| [OPEN_SPARSE_VALUE, OPEN_ODD_VALUE][index % 2]));
+        for state in [0x01, 0x03, 0x07] {
+            let page = with_byte(first.clone(), 0, state);
+            for entry in [Entry::PageCapacity, Entry::FillPage, Entry::WriteSecond, Entry::ReadSecond] {
+                self.page_with(entry, &page, 20);
+            }
+        }
+    }
+
     /// A call of write file with an output of this length, which holds any bytes; the contents go by turns.
     fn file(&mut self, device: u32, pages_length: usize, length: usize) {
         let contents = CONTENTS[self.calls.len() % CONTENTS.len()];
@@ -491,24 +582,24 @@ pub fn text_of(calls: &[Call]) -> String {
 mod tests {
     use super::*;
     use crate::answer::{pulses_in, Answer, Refusal};
-    use crate::page::FILLED;
-    use crate::word::{pulses, read_back, unwritten, well_formed, Cells, PULSES_MOST};
+    use crate::page::{page_capacity, FILLED, FIRST_ROUND};
+    use crate::word::{pulses, read_back, separators, separators_from, unwritten, well_formed, Cells, PULSES_MOST};
     use std::collections::HashSet;
     use std::sync::OnceLock;
 
     #[test]
     fn size_and_variety() {
         let calls = calls();
-        assert_eq!(calls.len(), 958);
-        assert!(text_of(&calls).len() < 250_000);
+        assert_eq!(calls.len(), 1_169);
+        assert!(text_of(&calls).len() < 280_000);
         assert!(calls.iter().all(|call| call.page.len().max(call.other.len()) <= LENGTH_MOST));
         let pages: HashSet<_> = calls.iter().map(|call| &call.page).filter(|page| page.len() == PAGE_BYTES).collect();
-        assert_eq!(pages.len(), 444);
+        assert_eq!(pages.len(), 627);
     }
 
     #[test]
     fn the_calls_of_write_file_come_last() {
-        assert!((0..).zip(calls()).all(|(index, call)| (call.entry == Entry::WriteFile) == (index >= 932)));
+        assert!((0..).zip(calls()).all(|(index, call)| (call.entry == Entry::WriteFile) == (index >= 1_143)));
     }
 
     /// The pages' length, the output's, and the answer.
@@ -694,6 +785,68 @@ mod tests {
         for entry in Entry::OF_FILLED_PAGES {
             let full = |(flaws, answer): (Vec<_>, Answer)| flaws == [(true, 23)] && number(answer) == 7;
             assert!(met(entry, flaws).into_iter().any(full), "{}", entry.name());
+        }
+    }
+
+    /// Whether the page has a word that is as the earlier fill left it, and not as the fill leaves it.
+    fn of_the_earlier_fill(call: &Call) -> bool {
+        let Some(first) = call.first.as_ref().filter(|_| call.page.len() == PAGE_BYTES) else { return false };
+        let words = words_of(&call.page).map(|cells| separators(&cells));
+        words == words_of(&filled_page_earlier(first)) && words != words_of(&filled_page(first))
+    }
+
+    /// Five such pages: each has the capacity of its first-round page, takes two records but not one that is a byte too
+    /// long, and gives two back.
+    #[test]
+    fn pages_of_the_earlier_fill() {
+        for (entry, count) in [(Entry::PageCapacity, 5), (Entry::WriteSecond, 15), (Entry::ReadSecond, 10)] {
+            let met = met(entry, Call::clone);
+            let earlier: Vec<_> = met.iter().filter(|(call, _)| of_the_earlier_fill(call)).collect();
+            assert_eq!(earlier.len(), count, "{}", entry.name());
+            for (call, answer) in earlier {
+                let capacity = page_capacity(call.first.as_ref().expect("it is told")).expect("a first-round page");
+                let wanted = match entry {
+                    Entry::PageCapacity => Ok(capacity),
+                    Entry::WriteSecond if 8 * call.other.len() as u64 > capacity => {
+                        Err(Refusal::record_length(capacity as usize))
+                    }
+                    Entry::WriteSecond => Ok(0),
+                    _ => Ok(call.other.len() as u64),
+                };
+                assert_eq!(*answer, wanted, "{}", entry.name());
+            }
+        }
+        let written = met(Entry::WriteSecond, |call| (of_the_earlier_fill(call), call.other.len()));
+        let least = [(82, Ok(0)), (83, Err(Refusal::record_length(660)))];
+        for (length, answer) in [(121, Ok(0)), (122, Err(Refusal::record_length(968)))].into_iter().chain(least) {
+            assert!(written.contains(&((true, length), answer)), "never {length} bytes");
+        }
+    }
+
+    /// The separators from cell 42 on of each word of a filled or second-round page.
+    fn ends(call: &Call) -> Vec<Vec<usize>> {
+        if call.page.len() != PAGE_BYTES || call.page[0] == FIRST_ROUND {
+            return Vec::new();
+        }
+        words_of(&call.page).iter().map(|cells| separators_from(cells, 42)).collect()
+    }
+
+    /// Each chosen word with each end on accepted pages, and each without the cell 45 that it needs after a separator in
+    /// cell 42; the two entries of filled pages count as one.
+    #[test]
+    fn chosen_words_with_each_end() {
+        let filled = Entry::OF_FILLED_PAGES.map(|entry| met(entry, ends)).concat();
+        for met in [filled, met(Entry::ReadSecond, ends)] {
+            let accepted = met.iter().filter(|(_, answer)| answer.is_ok());
+            let accepted: HashSet<_> = accepted.flat_map(|(ends, _)| ends.iter().enumerate()).collect();
+            for index in INDICES {
+                for end in [vec![43], vec![43, 45], vec![42, 44], vec![44], vec![42, 45]] {
+                    assert!(accepted.contains(&(index, &end)), "word {index} never ends in {end:?}");
+                }
+                let named = met.iter().filter(|(_, answer)| *answer == Err(Refusal::word(index)));
+                let lacks_45 = |(ends, _): &(Vec<Vec<usize>>, Answer)| ends.get(index).is_some_and(|end| *end == [42]);
+                assert!(named.into_iter().any(lacks_45), "word {index} never lacks cell 45");
+            }
         }
     }
 

@@ -3,7 +3,8 @@
 use super::files::{any_device, any_pages};
 use super::lengths::{resized, wrong_data_length, wrong_page_length, wrong_pages_length};
 use super::pages::{
-    any_filled, any_first, any_record, blank, most_bytes, second_from, with_data_cell, with_flaw, with_word,
+    any_first, any_record, blank, filled_page, filled_page_earlier, first_and_record, most_bytes, with_data_cell,
+    with_flaw, with_word, written_over, Filling,
 };
 use super::words::{any_argument, any_value, illegal, sum_too_large, with_hole, with_neighbours, Hole};
 use crate::call::{Call, Entry};
@@ -14,6 +15,11 @@ use crate::word::{cells_of, legal_word, number_of, CELLS};
 
 /// A call that is accepted.
 pub fn sound(random: &mut Random, entry: Entry) -> Call {
+    sound_by(random, entry, filled_page)
+}
+
+/// A call that is accepted, with a page made by this fill where it is a filled or a second-round page.
+fn sound_by(random: &mut Random, entry: Entry, fill: Filling) -> Call {
     match entry {
         Entry::EncodeWord => Call::of_word(entry, u64::from(any_value(random))),
         Entry::DecodeWord | Entry::FillWord | Entry::WordCapacity => {
@@ -24,20 +30,23 @@ pub fn sound(random: &mut Random, entry: Entry) -> Call {
             let longer = random.below(3);
             Call::of_page(entry, any_first(random), random.bytes(FIRST_BYTES + longer))
         }
+        Entry::PageCapacity if random.one_in(2) => Call::of_page(entry, any_first(random), Vec::new()),
         Entry::PageCapacity => {
-            let page = if random.one_in(2) { any_first(random) } else { any_filled(random) };
-            Call::of_page(entry, page, Vec::new())
+            let first = any_first(random);
+            Call::of_page(entry, fill(&first), Vec::new()).filled_from(&first)
         }
         Entry::FillPage => Call::of_page(entry, any_first(random), Vec::new()),
         Entry::WriteSecond => {
-            let page = any_filled(random);
+            let first = any_first(random);
+            let page = fill(&first);
             let length = random.between(0, most_bytes(&page));
-            Call::of_page(entry, page, any_record(random, length))
+            Call::of_page(entry, page, any_record(random, length)).filled_from(&first)
         }
         Entry::ReadSecond => {
-            let page = second_from(random, 1);
-            let length = usize::from(page[1]) + random.below(3);
-            Call::of_page(entry, page, random.bytes(length))
+            let (first, record) = first_and_record(random, 1);
+            let page = written_over(fill(&first), &record);
+            let length = record.len() + random.below(3);
+            Call::of_page(entry, page, random.bytes(length)).filled_from(&first)
         }
         Entry::WriteFile => {
             let pages = any_pages(random);
@@ -143,7 +152,12 @@ fn damage(random: &mut Random, call: &mut Call, number: u8) {
 /// A call that meets the conditions of the chosen refusals of its entry: bit k of `chosen` stands for the k-th in the
 /// stated order. The last is brought about first, since an earlier one may hide what a later one needs.
 pub fn combined(random: &mut Random, entry: Entry, chosen: usize) -> Call {
-    let mut call = sound(random, entry);
+    combined_by(random, entry, chosen, filled_page)
+}
+
+/// The same over a page made by this fill, where it is a filled or a second-round page.
+pub fn combined_by(random: &mut Random, entry: Entry, chosen: usize, fill: Filling) -> Call {
+    let mut call = sound_by(random, entry, fill);
     for (place, &number) in entry.refusals().iter().enumerate().rev() {
         if chosen >> place & 1 == 1 {
             damage(random, &mut call, number);
@@ -157,12 +171,13 @@ pub fn choices(entry: Entry) -> usize {
     1 << entry.refusals().len()
 }
 
-/// A call with none, one or any of the conditions of its entry.
+/// A call with none, one or any of the conditions of its entry, over a page made by either fill.
 pub fn any_combined(random: &mut Random, entry: Entry) -> Call {
     let one = 1 << random.below(entry.refusals().len().max(1));
     let any = random.below(choices(entry));
     let chosen = random.pick(&[0, one, one, any]);
-    combined(random, entry, chosen)
+    let fill = random.pick::<Filling>(&[filled_page, filled_page, filled_page_earlier]);
+    combined_by(random, entry, chosen, fill)
 }
 
 /// A word call of any argument; encode word takes 32 bits of it.
@@ -175,15 +190,32 @@ pub fn any_word_call(random: &mut Random, entry: Entry) -> Call {
 mod tests {
     use super::*;
     use crate::answer::number;
+    use crate::cases::pages::FILLINGS;
+    use crate::word::separators;
 
     #[test]
     fn the_first_chosen_refusal_is_returned() {
         let mut random = Random::new(2);
-        for entry in Entry::ALL {
+        for (entry, fill) in Entry::ALL.into_iter().flat_map(|entry| FILLINGS.map(|fill| (entry, fill))) {
             for chosen in (0..choices(entry)).cycle().take(640) {
                 let expected = if chosen == 0 { 0 } else { entry.refusals()[chosen.trailing_zeros() as usize] };
-                let mut call = combined(&mut random, entry, chosen);
+                let mut call = combined_by(&mut random, entry, chosen, fill);
                 assert_eq!(number(call.perform()), expected, "{} {chosen}", entry.name());
+            }
+        }
+    }
+
+    /// The first-round page that a sound call tells leads to its page, by the fill that was asked for.
+    #[test]
+    fn the_first_round_page_of_a_sound_call() {
+        let mut random = Random::new(3);
+        for (entry, fill) in Entry::AFTER_THE_FILL.into_iter().flat_map(|entry| FILLINGS.map(|fill| (entry, fill))) {
+            for call in [(); 100].map(|()| sound_by(&mut random, entry, fill)) {
+                let without_data = words_of(&call.page).map(|cells| separators(&cells));
+                match call.first {
+                    Some(first) => assert_eq!(words_of(&fill(&first)), without_data),
+                    None => assert_eq!(call.page[0], FIRST_ROUND),
+                }
             }
         }
     }

@@ -1,10 +1,10 @@
-//! Pages for the calls: of every state, valid and damaged.
+//! Pages for the calls: of every state, valid and damaged, and as versions before Change 6 left them.
 
 use super::words::{self, any_value, value_with_pulses, Hole, SPARSE_VALUE};
 use crate::call::Entry;
 use crate::page::{self, FILLED, FIRST_ROUND, PAGE_BYTES, SECOND_BYTES_MOST, SECOND_ROUND, WORDS};
 use crate::random::Random;
-use crate::word::Cells;
+use crate::word::{self, Cells, CELLS, LAST_CELL};
 
 pub fn blank(_: &mut Random) -> Vec<u8> {
     vec![0; PAGE_BYTES]
@@ -29,11 +29,33 @@ pub fn filled_page(first: &[u8]) -> Vec<u8> {
     page
 }
 
+/// The filled page of a first-round page, as versions before Change 6 left it.
+pub fn filled_page_earlier(first: &[u8]) -> Vec<u8> {
+    let mut page = with_byte(first.to_vec(), 0, FILLED);
+    page::put_words(&mut page, &page::words_of(first).map(|legal| word::filled_earlier(&legal)));
+    page
+}
+
+/// Makes the filled page of a first-round page.
+pub type Filling = fn(&[u8]) -> Vec<u8>;
+
+/// The fill, and the one before Change 6.
+pub const FILLINGS: [Filling; 2] = [filled_page, filled_page_earlier];
+
+/// The filled page after a record that fits was written over it.
+pub fn written_over(mut filled: Vec<u8>, record: &[u8]) -> Vec<u8> {
+    page::write_second(&mut filled, record).expect("the record fits");
+    filled
+}
+
 /// The outcome of a record that fits the first-round page.
 pub fn second_page(first: &[u8], record: &[u8]) -> Vec<u8> {
-    let mut page = filled_page(first);
-    page::write_second(&mut page, record).expect("the record fits");
-    page
+    written_over(filled_page(first), record)
+}
+
+/// The second-round page of a record that fits the first-round page, as versions before Change 6 left it.
+pub fn second_page_earlier(first: &[u8], record: &[u8]) -> Vec<u8> {
+    written_over(filled_page_earlier(first), record)
 }
 
 /// The most bytes that fit a first-round page or a filled page.
@@ -59,6 +81,17 @@ pub fn with_byte(mut page: Vec<u8>, place: usize, byte: u8) -> Vec<u8> {
 pub fn with_flip(mut page: Vec<u8>, bit: usize) -> Vec<u8> {
     page[bit / 8] ^= 0x80 >> (bit % 8);
     page
+}
+
+/// The page with cell 45 of this word flipped.
+pub fn with_cell_45_flipped(page: Vec<u8>, index: usize) -> Vec<u8> {
+    with_flip(page, 24 + CELLS * index + LAST_CELL)
+}
+
+/// The filled page without one of the separators of this word but 45.
+pub fn without_separator(random: &mut Random, filled: Vec<u8>, index: usize) -> Vec<u8> {
+    let cells = words::without_separator(random, page::words_of(&filled)[index]);
+    with_word(filled, index, cells)
 }
 
 /// The filled or second-round page with this data cell set, counted from 0 over the page.
@@ -110,18 +143,30 @@ pub fn any_filled(random: &mut Random) -> Vec<u8> {
     filled_page(&any_first(random))
 }
 
-/// A second-round page with a record of at least `least` bytes, 0 to 82.
-pub fn second_from(random: &mut Random, least: usize) -> Vec<u8> {
+/// A first-round page, and a record of at least `least` bytes, 0 to 82, that fits it.
+pub fn first_and_record(random: &mut Random, least: usize) -> (Vec<u8>, Vec<u8>) {
     let first = any_first(random);
     let most = most_bytes(&first);
     let any = random.between(least, most);
     let length = random.pick(&[least, most, any, any]);
     let record = any_record(random, length);
-    second_page(&first, &record)
+    (first, record)
 }
 
 pub fn any_second(random: &mut Random) -> Vec<u8> {
-    second_from(random, 0)
+    let (first, record) = first_and_record(random, 0);
+    second_page(&first, &record)
+}
+
+/// A filled page as versions before Change 6 left it.
+fn any_filled_earlier(random: &mut Random) -> Vec<u8> {
+    filled_page_earlier(&any_first(random))
+}
+
+/// A second-round page as versions before Change 6 left it.
+fn any_second_earlier(random: &mut Random) -> Vec<u8> {
+    let (first, record) = first_and_record(random, 0);
+    second_page_earlier(&first, &record)
 }
 
 fn blank_with_byte(random: &mut Random) -> Vec<u8> {
@@ -189,6 +234,45 @@ fn filled_of_any_words(random: &mut Random) -> Vec<u8> {
     page[0] = FILLED;
     page::put_words(&mut page, &[(); WORDS].map(|()| words::unwritten(random)));
     page
+}
+
+/// The page with cell 45 flipped in about every other word that has a separator in cell 43, so that each of these words
+/// is as one or the other fill leaves it.
+fn with_either_end(random: &mut Random, page: Vec<u8>) -> Vec<u8> {
+    let ends = page::words_of(&page).map(|cells| word::separators(&cells)[LAST_CELL - 2]);
+    let chosen: Vec<usize> = (0..WORDS).filter(|&index| ends[index] && random.one_in(2)).collect();
+    chosen.into_iter().fold(page, with_cell_45_flipped)
+}
+
+/// A filled page of which each word is as one or the other fill leaves it.
+fn filled_of_either_end(random: &mut Random) -> Vec<u8> {
+    let page = any_filled(random);
+    with_either_end(random, page)
+}
+
+/// A second-round page of which each word is as one or the other fill leaves it.
+fn second_of_either_end(random: &mut Random) -> Vec<u8> {
+    let page = any_second(random);
+    with_either_end(random, page)
+}
+
+/// A filled page of either fill with cell 45 of one word flipped: the separator goes or comes, or the data cell is set.
+fn filled_with_cell_45_flipped(random: &mut Random) -> Vec<u8> {
+    let page = random.pick::<Maker>(&[any_filled, any_filled_earlier])(random);
+    with_cell_45_flipped(page, random.below(WORDS))
+}
+
+/// The same with a second-round page, where the data cell may have been set.
+fn second_with_cell_45_flipped(random: &mut Random) -> Vec<u8> {
+    let page = random.pick::<Maker>(&[any_second, any_second_earlier])(random);
+    with_cell_45_flipped(page, random.below(WORDS))
+}
+
+/// A filled page of either fill that lacks another cell of the fill than 45.
+fn filled_without_separator(random: &mut Random) -> Vec<u8> {
+    let page = random.pick::<Maker>(&[any_filled, any_filled_earlier])(random);
+    let index = random.below(WORDS);
+    without_separator(random, page, index)
 }
 
 fn filled_flipped(random: &mut Random) -> Vec<u8> {
@@ -268,11 +352,16 @@ type Maker = fn(&mut Random) -> Vec<u8>;
 const BLANK_KINDS: [Maker; 4] = [blank, blank, blank, blank_with_byte];
 const FIRST_KINDS: [Maker; 7] =
     [any_first, any_first, any_first, first_with_header, first_with_illegal_word, first_flipped, first_of_any_cells];
-const FILLED_KINDS: [Maker; 12] = [
+const FILLED_KINDS: [Maker; 17] = [
     any_filled,
     any_filled,
     any_filled,
+    any_filled_earlier,
+    any_filled_earlier,
+    filled_of_either_end,
     filled_of_any_words,
+    filled_with_cell_45_flipped,
+    filled_without_separator,
     filled_with_header,
     filled_with_flaw,
     filled_with_flaw,
@@ -282,10 +371,14 @@ const FILLED_KINDS: [Maker; 12] = [
     filled_of_any_cells,
     filled_of_another_round,
 ];
-const SECOND_KINDS: [Maker; 10] = [
+const SECOND_KINDS: [Maker; 14] = [
     any_second,
     any_second,
     any_second,
+    any_second_earlier,
+    any_second_earlier,
+    second_of_either_end,
+    second_with_cell_45_flipped,
     second_with_header,
     second_with_hole,
     second_of_other_length,
@@ -319,19 +412,75 @@ pub fn page_for(random: &mut Random, entry: Entry) -> Vec<u8> {
 mod tests {
     use super::*;
     use crate::answer::number;
-    use crate::page::{page_capacity, write_second};
+    use crate::call::Call;
+    use crate::page::{page_capacity, read_second, write_second};
     use std::collections::HashSet;
 
     #[test]
     fn filled_pages_of_each_kind() {
         let mut random = Random::new(6);
         for _ in 0..200 {
-            for maker in [any_filled, filled_of_any_words] {
+            for maker in [any_filled, any_filled_earlier, filled_of_either_end, filled_of_any_words] {
                 assert!(page_capacity(&maker(&mut random)).is_ok());
             }
-            for maker in [filled_with_flaw, filled_with_two_flaws, filled_with_data_cell] {
+            let flawed: [Maker; 4] =
+                [filled_with_flaw, filled_with_two_flaws, filled_with_data_cell, filled_without_separator];
+            for maker in flawed {
                 assert_eq!(number(page_capacity(&maker(&mut random))), 7);
             }
+        }
+    }
+
+    #[test]
+    fn second_round_pages_of_each_kind() {
+        let mut random = Random::new(6);
+        for _ in 0..200 {
+            for maker in [any_second, any_second_earlier, second_of_either_end] {
+                assert!(read_second(&maker(&mut random), &mut [0; SECOND_BYTES_MOST]).is_ok());
+            }
+        }
+    }
+
+    /// The answers that pages with cell 45 of one word flipped lead to.
+    #[test]
+    fn pages_with_cell_45_flipped() {
+        let mut random = Random::new(7);
+        let measured = (0..300).map(|_| number(page_capacity(&filled_with_cell_45_flipped(&mut random))));
+        assert_eq!(measured.collect::<HashSet<u8>>(), HashSet::from([0, 7]));
+        let read = |page: Vec<u8>| number(read_second(&page, &mut [0; SECOND_BYTES_MOST]));
+        let met: HashSet<u8> = (0..300).map(|_| read(second_with_cell_45_flipped(&mut random))).collect();
+        assert_eq!(met, HashSet::from([0, 7, 9]));
+    }
+
+    /// Where a word ends in cell 43, both ends occur on one page; the other words stay as they are.
+    #[test]
+    fn words_of_either_end() {
+        let mut random = Random::new(8);
+        for maker in [filled_of_either_end, second_of_either_end] {
+            let pages: Vec<_> = (0..50).map(|_| page::words_of(&maker(&mut random))).collect();
+            let open_and_not = |words: &&page::Words| {
+                let ends = words.map(|cells| word::separators(&cells)).map(|cells| (cells[43], cells[45]));
+                ends.contains(&(true, false)) && ends.contains(&(true, true))
+            };
+            assert!(pages.iter().filter(open_and_not).count() > 25);
+        }
+    }
+
+    /// Of the pages of random calls, each entry accepts many with an open word, and many without any, as the earlier fill
+    /// left them.
+    #[test]
+    fn pages_for_the_entries_after_the_fill() {
+        for entry in Entry::AFTER_THE_FILL {
+            let mut random = Random::new(9);
+            let pages: Vec<_> = (0..1_000).map(|_| page_for(&mut random, entry)).filter(|page| page[0] > 1).collect();
+            let accepted = |page: &&Vec<u8>| {
+                let mut call = Call::of_page(entry, page.to_vec(), Vec::new());
+                // An empty output may be too short.
+                matches!(number(call.perform()), 0 | 3)
+            };
+            let words: Vec<_> = pages.iter().filter(accepted).map(|page| page::words_of(page)).collect();
+            let open = words.iter().filter(|words| words.iter().any(word::open)).count();
+            assert!(open > 50 && words.len() - open > 50, "{}: {open} of {}", entry.name(), words.len());
         }
     }
 

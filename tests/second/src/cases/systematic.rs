@@ -1,13 +1,13 @@
-//! The fixed part of the differential run: it walks states, header bytes, words, lengths, refusals and files one by
-//! one.
+//! The fixed part of the differential run: it walks states, header bytes, words, the ends of words, lengths, refusals and
+//! files one by one, and pages as versions before Change 6 left them.
 
-use super::damage::{choices, combined};
+use super::damage::{choices, combined, combined_by};
 use super::files::{any_device, numbered, CONTENTS, DEVICES};
 use super::lengths::{resized, FAR_PAGES_LENGTHS, FAR_RECORD_LENGTHS};
 use super::pages::*;
 use super::words::{
     any_value, sum_too_large, unwritten, with_bare_hole, with_hole, with_neighbours, with_one_data_cell, Hole,
-    LISTED_VALUES, ODD_VALUE, SPARSE_VALUE,
+    END_VALUES, LISTED_VALUES, ODD_VALUE, OPEN_ODD_VALUE, OPEN_SPARSE_VALUE, OPEN_VALUES, SPARSE_VALUE,
 };
 use crate::call::{Call, Entry};
 use crate::file::{file_bytes, FILE_PAGES_MOST};
@@ -18,6 +18,9 @@ use crate::word::{
 };
 
 const SEED: u64 = 1_012;
+
+/// Values to whose words the fill adds no cell: in two of them the first data set cell 45, and two are open.
+const ALIKE_VALUES: [u32; 4] = [SPARSE_VALUE, ODD_VALUE, OPEN_SPARSE_VALUE, OPEN_ODD_VALUE];
 
 /// The calls made so far, and what they are made from.
 struct Walk {
@@ -57,6 +60,11 @@ pub fn calls() -> Vec<Call> {
     walk.page_lengths();
     walk.data_lengths();
     walk.refusals();
+    walk.both_fills();
+    walk.earlier_record_lengths();
+    walk.earlier_exact_fits();
+    walk.earlier_refusals();
+    walk.cells_45();
     walk.devices();
     walk.contents();
     walk.file_lengths();
@@ -78,6 +86,12 @@ impl Walk {
     fn page(&mut self, entry: Entry, page: &[u8], length: usize) {
         let other = self.random.bytes(length);
         self.calls.push(Call::of_page(entry, page.to_vec(), other));
+    }
+
+    /// A call over a page that was filled, by either fill, from this first-round page.
+    fn page_from(&mut self, first: &[u8], entry: Entry, page: &[u8], length: usize) {
+        let other = self.random.bytes(length);
+        self.calls.push(Call::of_page(entry, page.to_vec(), other).filled_from(first));
     }
 
     /// Calls with the other buffer of a length that is not refused.
@@ -121,7 +135,7 @@ impl Walk {
 
     /// Every state over cells that are sound in states 01, 03 and 07 alike.
     fn alike_pages(&mut self) {
-        for base in [SPARSE_VALUE, ODD_VALUE].map(|value| first_page(&[value; WORDS])) {
+        for base in ALIKE_VALUES.map(|value| first_page(&[value; WORDS])) {
             (0..=255).for_each(|state| self.pages(&Entry::OF_PAGES, &with_byte(base.clone(), 0, state)));
         }
     }
@@ -183,25 +197,30 @@ impl Walk {
         }
     }
 
-    /// Every single bit of a valid page of each state flipped.
+    /// Every single bit flipped of a valid page of each state, and of a filled and a second-round page of the earlier
+    /// fill.
     fn flips(&mut self) {
         let of_filled = [Entry::PageCapacity, Entry::FillPage, Entry::WriteSecond, Entry::ReadSecond];
+        let filled_earlier = filled_page_earlier(&self.first);
+        let second_earlier = second_page_earlier(&self.first, &self.random.bytes(60));
         for bit in 0..8 * PAGE_BYTES {
             self.pages(&[Entry::WriteFirst], &with_flip(self.blank.clone(), bit));
             self.pages(&Entry::OF_FIRST_PAGES, &with_flip(self.first.clone(), bit));
             self.pages(&of_filled, &with_flip(self.filled.clone(), bit));
             self.pages(&[Entry::ReadSecond], &with_flip(self.second.clone(), bit));
+            self.pages(&Entry::OF_FILLED_PAGES, &with_flip(filled_earlier.clone(), bit));
+            self.pages(&[Entry::ReadSecond], &with_flip(second_earlier.clone(), bit));
         }
     }
 
-    /// First-round pages of every value at a weight and beside it, and of any values: each is filled; both pages are
-    /// measured, and a record is written over the filled one.
+    /// First-round pages of every value at a weight and beside it, and of any values: each is filled, by the earlier fill
+    /// as well; the pages are measured, and a record is written over the filled ones.
     fn fills(&mut self) {
         for value in values_about_weights().chain(LISTED_VALUES).chain([ODD_VALUE, u32::MAX]) {
             let mixed = std::array::from_fn(|index| if index % 2 == 0 { value } else { any_value(&mut self.random) });
             for first in [first_page(&[value; WORDS]), first_page(&mixed)] {
                 self.pages(&[Entry::PageCapacity, Entry::FillPage], &first);
-                self.pages(&Entry::OF_FILLED_PAGES, &filled_page(&first));
+                FILLINGS.into_iter().for_each(|fill| self.pages(&Entry::OF_FILLED_PAGES, &fill(&first)));
             }
         }
     }
@@ -307,6 +326,101 @@ impl Walk {
         }
     }
 
+    /// First-round pages on which the earlier fill sets a cell 45 that the fill leaves at 0: in all words, in each alone, and
+    /// in some words.
+    fn firsts_with_open_words(&mut self) -> Vec<Vec<u8>> {
+        let alone = |index: usize| with_value([SPARSE_VALUE; WORDS], index, OPEN_VALUES[index % OPEN_VALUES.len()]);
+        let values = OPEN_VALUES.map(|value| [value; WORDS]).into_iter().chain((0..WORDS).map(alone));
+        let any = [(); 8].map(|()| [(); WORDS].map(|()| any_value(&mut self.random)));
+        values.chain(any).map(|values| first_page(&values)).collect()
+    }
+
+    /// Such pages, filled by either fill: they are measured; records up to the longest that fits, and one byte more, are
+    /// written over them; and the outcomes are read back.
+    fn both_fills(&mut self) {
+        for first in self.firsts_with_open_words() {
+            for filled in FILLINGS.map(|fill| fill(&first)) {
+                self.page_from(&first, Entry::PageCapacity, &filled, 0);
+                self.records_over(&first, &filled);
+            }
+        }
+    }
+
+    /// Records over the page that was filled from this first-round page.
+    fn records_over(&mut self, first: &[u8], filled: &[u8]) {
+        let most = most_bytes(first);
+        for length in [0, 1, 40, most - 1, most] {
+            self.page_from(first, Entry::WriteSecond, filled, length);
+            self.read_back(first, filled, length);
+        }
+        self.page_from(first, Entry::WriteSecond, filled, most + 1);
+    }
+
+    /// Reads any record of this length over the filled page.
+    fn read_back(&mut self, first: &[u8], filled: &[u8], length: usize) {
+        let second = written_over(filled.to_vec(), &self.random.bytes(length));
+        self.page_from(first, Entry::ReadSecond, &second, length);
+    }
+
+    /// Every record length 0 to 130 over pages of the earlier fill, of the least and of middle capacities, each outcome
+    /// read back.
+    fn earlier_record_lengths(&mut self) {
+        for first in [first_page(&[OPEN_SPARSE_VALUE; WORDS]), first_page(&[3; WORDS]), self.first.clone()] {
+            let filled = filled_page_earlier(&first);
+            for length in 0..=130 {
+                self.page_from(&first, Entry::WriteSecond, &filled, length);
+                if length <= most_bytes(&first) {
+                    self.read_back(&first, &filled, length);
+                }
+            }
+        }
+    }
+
+    /// Pages of the earlier fill, on which the longest record that fits leaves 0 to 7 data cells: that record, its outcome
+    /// read back, and one byte more.
+    fn earlier_exact_fits(&mut self) {
+        for more in 0..8 {
+            let first =
+                first_page(&std::array::from_fn(|index| if index % 6 == 1 && index / 6 < more { 0 } else { 3 }));
+            let filled = filled_page_earlier(&first);
+            let most = most_bytes(&first);
+            self.page_from(&first, Entry::WriteSecond, &filled, most);
+            self.page_from(&first, Entry::WriteSecond, &filled, most + 1);
+            self.read_back(&first, &filled, most);
+        }
+    }
+
+    /// Every choice of refusals over pages of the earlier fill.
+    fn earlier_refusals(&mut self) {
+        for entry in Entry::AFTER_THE_FILL {
+            for chosen in (0..choices(entry)).cycle().take(128) {
+                let call = combined_by(&mut self.random, entry, chosen, filled_page_earlier);
+                self.calls.push(call);
+            }
+        }
+    }
+
+    /// Cell 45 of each word flipped by itself, of words that end in each way: on filled pages of either fill, and under
+    /// no record, a record of 40 bytes and the longest.
+    fn cells_45(&mut self) {
+        for turn in 0..END_VALUES.len() {
+            let first = first_page(&std::array::from_fn(|index| END_VALUES[(index + turn) % END_VALUES.len()]));
+            for filled in FILLINGS.map(|fill| fill(&first)) {
+                let records = [0, 40, most_bytes(&first)].map(|length| self.random.bytes(length));
+                let seconds = records.map(|record| written_over(filled.clone(), &record));
+                (0..WORDS).for_each(|index| self.cell_45(&filled, &seconds, index));
+            }
+        }
+    }
+
+    /// Cell 45 of one word flipped on each of these pages.
+    fn cell_45(&mut self, filled: &[u8], seconds: &[Vec<u8>], index: usize) {
+        self.pages(&Entry::OF_FILLED_PAGES, &with_cell_45_flipped(filled.to_vec(), index));
+        for second in seconds {
+            self.pages(&[Entry::ReadSecond], &with_cell_45_flipped(second.clone(), index));
+        }
+    }
+
     /// A call of write file with an output of this length, which holds any bytes.
     fn file(&mut self, device: u32, pages: &[u8], length: usize) {
         let output = self.random.bytes(length);
@@ -366,8 +480,10 @@ impl Walk {
 mod tests {
     use super::*;
     use crate::answer::{number, pulses_in, value, Answer};
-    use crate::page::{page_capacity, FILLED, FIRST_ROUND, SECOND_ROUND};
-    use crate::word::{decode_word, pulses, read_back, well_formed};
+    use crate::case::Place;
+    use crate::coverage::Coverage;
+    use crate::page::{page_capacity, read_second, FILLED, FIRST_ROUND, SECOND_ROUND};
+    use crate::word::{decode_word, pulses, read_back, separators, separators_from, well_formed};
     use std::collections::HashSet;
     use std::fmt::Debug;
     use std::hash::Hash;
@@ -385,15 +501,16 @@ mod tests {
         ANSWERED.get_or_init(|| calls().into_iter().map(with_answer).collect())
     }
 
-    /// Each of the wanted is what `class` tells of some call of the entry.
-    fn occurs<T, W, F>(entry: Entry, wanted: W, class: F)
+    /// Each of the wanted is one of those that `class` tells of some call of the entry.
+    fn occurs<T, W, F, C>(entry: Entry, wanted: W, class: F)
     where
         T: Debug + Eq + Hash,
         W: IntoIterator<Item = T>,
-        F: Fn(&Call, Answer) -> Option<T>,
+        F: Fn(&Call, Answer) -> C,
+        C: IntoIterator<Item = T>,
     {
         let of_entry = answered().iter().filter(|(call, _)| call.entry == entry);
-        let met: HashSet<T> = of_entry.filter_map(|(call, answer)| class(call, *answer)).collect();
+        let met: HashSet<T> = of_entry.flat_map(|(call, answer)| class(call, *answer)).collect();
         for one in wanted {
             assert!(met.contains(&one), "{}: never {one:?}", entry.name());
         }
@@ -432,7 +549,7 @@ mod tests {
         match (separators.first(), separators.last()) {
             (None, _) => "everywhere",
             (Some(&first), _) if first > 1 => "start",
-            (_, Some(&last)) if last < CELLS - 2 => "end",
+            (_, Some(&last)) if last < CELLS - 3 => "end",
             _ => "middle",
         }
     }
@@ -448,7 +565,17 @@ mod tests {
 
     #[test]
     fn the_number_of_calls() {
-        assert_eq!(answered().len(), 81_423);
+        assert_eq!(answered().len(), 97_185);
+    }
+
+    /// These calls alone meet every counter of a run but those of the other places of the buffers.
+    #[test]
+    fn every_counter_between_canary_bytes() {
+        let mut coverage = Coverage::new();
+        answered().iter().for_each(|(call, answer)| coverage.count(call, Place::Canaries, *answer));
+        for (name, met) in coverage.wanted() {
+            assert!(met > 0 || name.contains("untouchable memory") || name.contains("far length"), "{name}");
+        }
     }
 
     /// "cell 0 is worth 2971215073": that word alone, and its neighbours.
@@ -563,20 +690,187 @@ mod tests {
         }
     }
 
+    /// The first page that the entry accepts and that is as asked for.
+    fn accepted_page(entry: Entry, asked: impl Fn(&[u8]) -> bool) -> &'static [u8] {
+        let mut accepted = answered().iter().filter(|(call, answer)| call.entry == entry && answer.is_ok());
+        &accepted.find(|(call, _)| asked(&call.page)).expect("an accepted call").0.page
+    }
+
+    /// A filled page, and the page that the earlier fill left of the same first-round page.
+    fn flipped_pages() -> (&'static [u8], Vec<u8>) {
+        let filled = accepted_page(Entry::WriteSecond, |_| true);
+        let first = accepted_page(Entry::ReadFirst, |page| filled_page(page) == filled);
+        (filled, filled_page_earlier(first))
+    }
+
     /// Each bit of the page flipped by itself: the entries that take such a page look at each cell, the others at the
     /// state alone.
     #[test]
     fn every_cell_of_a_filled_page_flipped() {
-        let accepted = answered().iter().find(|(call, answer)| call.entry == Entry::WriteSecond && answer.is_ok());
-        let base = &accepted.expect("an accepted call").0.page;
-        let of_filled = Entry::OF_FILLED_PAGES.map(|entry| (entry, 7, 24..8 * PAGE_BYTES));
-        let others = [Entry::FillPage, Entry::ReadSecond].map(|entry| (entry, 5, 8..8 * PAGE_BYTES));
-        for (entry, refusal, wanted) in of_filled.into_iter().chain(others) {
-            occurs(entry, wanted, |call, answer| match number(answer) {
-                met if met == refusal => single_flip(&call.page, base),
+        let (base, _) = flipped_pages();
+        for entry in Entry::OF_FILLED_PAGES {
+            every_cell_flipped(entry, base);
+        }
+        for entry in [Entry::FillPage, Entry::ReadSecond] {
+            occurs(entry, 8..8 * PAGE_BYTES, |call, answer| match number(answer) {
+                5 => single_flip(&call.page, base),
                 _ => None,
             });
         }
+    }
+
+    #[test]
+    fn every_cell_of_a_page_of_the_earlier_fill_flipped() {
+        let (filled, base) = flipped_pages();
+        assert_ne!(base, filled);
+        for entry in Entry::OF_FILLED_PAGES {
+            every_cell_flipped(entry, &base);
+        }
+    }
+
+    /// Each cell of the filled page flipped by itself is refused by 7, but cell 45 after a separator in cell 43, which is
+    /// accepted. Of the latter there are some.
+    fn every_cell_flipped(entry: Entry, base: &[u8]) {
+        let after_43 = words_of(base).map(|cells| cells[43]);
+        let either = |bit: usize| (bit - 24) % CELLS == 45 && after_43[(bit - 24) / CELLS];
+        assert!((24..8 * PAGE_BYTES).filter(|&bit| either(bit)).count() > 10);
+        let wanted = (24..8 * PAGE_BYTES).map(|bit| (bit, if either(bit) { 0 } else { 7 }));
+        occurs(entry, wanted, |call, answer| match number(answer) {
+            met @ (0 | 7) => single_flip(&call.page, base).map(|bit| (bit, met)),
+            _ => None,
+        });
+    }
+
+    /// The words of an accepted page after the fill, each with its end.
+    fn accepted_ends(call: &Call, answer: Answer) -> Vec<(usize, Vec<usize>)> {
+        if answer.is_err() || call.page[0] == FIRST_ROUND {
+            return Vec::new();
+        }
+        words_of(&call.page).iter().map(|cells| separators_from(cells, 42)).enumerate().collect()
+    }
+
+    /// Every word with each end that a well-formed word has; in cell 43 alone, it has cells 44 and 45 at 0.
+    #[test]
+    fn every_word_with_each_end() {
+        let ends = [&[42, 44][..], &[44], &[42, 45], &[43], &[43, 45]];
+        let wanted = || (0..WORDS).flat_map(|index| ends.map(|end| (index, end.to_vec())));
+        for entry in Entry::AFTER_THE_FILL {
+            occurs(entry, wanted(), accepted_ends);
+        }
+    }
+
+    /// 7 names every word that lacks cell 45 alone after a separator in cell 42: then cell 44 could be set.
+    #[test]
+    fn every_word_without_the_cell_45_that_it_needs() {
+        for entry in Entry::AFTER_THE_FILL {
+            occurs(entry, 0..WORDS, |call, answer| {
+                let lacks_it = |cells: Cells| well_formed(&std::array::from_fn(|cell| cells[cell] || cell == 45));
+                let after_the_fill = call.page.first() > Some(&FIRST_ROUND);
+                let named = refused_word(call, answer).filter(|_| after_the_fill);
+                named
+                    .filter(|(_, cells)| separators_from(cells, 42) == [42] && lacks_it(*cells))
+                    .map(|(index, _)| index)
+            });
+        }
+    }
+
+    /// After a separator in cell 44, cell 45 is a data cell: on a filled page 7 names every word in which it is set, and
+    /// in every word it is the one spare data cell that 9 is for.
+    #[test]
+    fn every_cell_45_that_is_a_data_cell() {
+        let set = |cells: &Cells| read_back(cells).into_iter().filter(|&cell| cells[cell]).collect::<Vec<usize>>();
+        for entry in Entry::OF_FILLED_PAGES {
+            occurs(entry, 0..WORDS, |call, answer| {
+                let filled = call.page.first() == Some(&FILLED);
+                let named = refused_word(call, answer).filter(|(_, cells)| filled && set(cells) == [45]);
+                named.map(|(index, _)| index)
+            });
+        }
+        occurs(Entry::ReadSecond, 0..WORDS, |call, answer| {
+            if number(answer) != 9 {
+                return None;
+            }
+            let words = words_of(&call.page);
+            let spare = data_cells_of(&words).into_iter().skip(8 * usize::from(call.page[1]));
+            let set: Vec<_> = spare.filter(|&(index, cell)| words[index][cell]).collect();
+            match set[..] {
+                [(index, 45)] => Some(index),
+                _ => None,
+            }
+        });
+    }
+
+    /// The words that are not as the fill leaves them, but as the earlier fill left them, of an accepted page whose
+    /// first-round page is told.
+    fn earlier_words(call: &Call, answer: Answer) -> Vec<usize> {
+        let Some(first) = call.first.as_ref().filter(|_| answer.is_ok()) else { return Vec::new() };
+        let words = words_of(&call.page).map(|cells| separators(&cells));
+        let (now, earlier) = (words_of(&filled_page(first)), words_of(&filled_page_earlier(first)));
+        (0..WORDS).filter(|&index| words[index] == earlier[index] && words[index] != now[index]).collect()
+    }
+
+    /// Every word alone, and all of them, have a cell 45 that only the earlier fill set.
+    #[test]
+    fn every_word_of_the_earlier_fill() {
+        for entry in Entry::AFTER_THE_FILL {
+            let wanted = (0..WORDS).map(|index| vec![index]).chain([(0..WORDS).collect()]);
+            occurs(entry, wanted, |call, answer| Some(earlier_words(call, answer)));
+        }
+    }
+
+    /// Every record length over pages of the earlier fill, accepted or refused 8, and read back.
+    #[test]
+    fn every_record_length_over_pages_of_the_earlier_fill() {
+        let all = |call: &Call| earlier_words(call, Ok(0)).len() == WORDS;
+        let wanted = (0..=130).flat_map(|length| [(660, length), (968, length)]);
+        occurs(Entry::WriteSecond, wanted, |call, answer| {
+            let counts = record_counts(answer) && all(call);
+            counts.then(|| (page_capacity(&call.page).expect("a filled page"), call.other.len()))
+        });
+        occurs(Entry::ReadSecond, 0..=121, |call, answer| answer.ok().filter(|_| all(call)));
+        // The longest record leaves 0 to 7 data cells.
+        occurs(Entry::WriteSecond, 0..8, |call, answer| {
+            let capacity = answer.ok().filter(|_| !earlier_words(call, answer).is_empty());
+            capacity.map(|_| page_capacity(&call.page).expect("a filled page") - 8 * call.other.len() as u64)
+        });
+    }
+
+    /// The same call over the page that the fill leaves of the same first-round page, with the same record.
+    fn over_the_fill(call: &Call, first: &[u8]) -> Call {
+        let page = match call.entry {
+            Entry::ReadSecond => {
+                let mut output = [0; SECOND_BYTES_MOST];
+                let length = read_second(&call.page, &mut output).expect("a second-round page");
+                second_page(first, &output[..length as usize])
+            }
+            _ => filled_page(first),
+        };
+        Call { page, ..call.clone() }
+    }
+
+    /// The record on the page after the call, if it is a second-round page.
+    fn record_on(page: &[u8]) -> Option<Vec<u8>> {
+        let mut output = vec![0; SECOND_BYTES_MOST];
+        let length = read_second(page, &mut output).ok()?;
+        output.truncate(length as usize);
+        Some(output)
+    }
+
+    /// Over a page of the earlier fill there is the same answer as over that of the fill, the same output, and the same
+    /// record on the page: the same capacity, and the same records fit and are read.
+    #[test]
+    fn the_same_answers_for_both_fills() {
+        let looked_at = answered().iter().filter(|(_, answer)| matches!(number(*answer), 0 | 3 | 8));
+        let mut compared = 0;
+        for (call, answer) in looked_at.filter(|(call, _)| !earlier_words(call, Ok(0)).is_empty()) {
+            let (mut earlier, mut now) = (call.clone(), over_the_fill(call, call.first.as_ref().expect("it is told")));
+            assert_ne!(earlier.page, now.page);
+            assert_eq!((earlier.perform(), now.perform()), (*answer, *answer));
+            assert_eq!(earlier.other, now.other);
+            assert_eq!(record_on(&earlier.page), record_on(&now.page));
+            compared += 1;
+        }
+        assert!(compared > 1_000, "{compared}");
     }
 
     /// "Page capacity serves both states": the least, the most and a middle capacity in each.
@@ -613,7 +907,7 @@ mod tests {
     #[test]
     fn every_state_over_cells_that_are_sound_in_each() {
         for entry in Entry::OF_PAGES.into_iter().filter(|&entry| entry != Entry::WriteFirst) {
-            for value in [SPARSE_VALUE, ODD_VALUE] {
+            for value in ALIKE_VALUES {
                 let cells = &first_page(&[value; WORDS])[1..];
                 let wanted = (0..=255).map(|state| (state, if entry.states().contains(&state) { 0 } else { 5 }));
                 occurs(entry, wanted, |call, answer| {

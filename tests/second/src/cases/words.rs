@@ -1,8 +1,8 @@
-//! Words for the calls: legal, damaged, well formed, unwritten, and with a hole.
+//! Words for the calls: legal, damaged, well formed, unwritten, of either fill, and with a hole.
 
 use crate::random::Random;
 use crate::word::{
-    cells_with_sum, data_cells, legal_word, number_of, sum, weight, Cells, CELLS, LARGEST_SUM, LARGEST_VALUE,
+    cells_with_sum, data_cells, legal_word, number_of, sum, weight, Cells, CELLS, LARGEST_SUM, LARGEST_VALUE, LAST_CELL,
 };
 
 /// The value of the word with the least capacity: "cells 0, 3, 6 up to 45".
@@ -13,6 +13,16 @@ pub const ODD_VALUE: u32 = 2_971_215_072;
 
 /// The value whose word has cells 0 and 45 set: the set cells of two such words touch, and are legal.
 pub const EDGE_VALUE: u32 = 2_971_215_074;
+
+/// Values whose filled words are open: value 3; cells 1, 4, 7 up to 43, with the least capacity; and the odd cells 1 to 43.
+/// The fill adds no cell to the latter two. The earlier fill set cell 45 of all three.
+pub const OPEN_VALUES: [u32; 3] = [3, OPEN_SPARSE_VALUE, OPEN_ODD_VALUE];
+pub const OPEN_SPARSE_VALUE: u32 = 2_403_763_487;
+pub const OPEN_ODD_VALUE: u32 = ODD_VALUE - 1;
+
+/// Values whose filled words end in each way: in separators 42 and 44, 41 and 44, 42 and 45 (twice), in 43 after 40 and
+/// after 41, and in 43 and 45 after 40 and after 41.
+pub const END_VALUES: [u32; 8] = [0, 243, 1, SPARSE_VALUE, 3, OPEN_ODD_VALUE, 4, ODD_VALUE];
 
 /// The values of document 01's list.
 pub const LISTED_VALUES: [u32; 7] = [0, 1, 2, 3, 77, 243, SPARSE_VALUE];
@@ -74,12 +84,13 @@ impl Hole {
 }
 
 /// The separators of a well-formed word: the first in cell 0 or 1, each two or three cells after the one before it, the
-/// last in cell 44 or 45.
+/// last in cell 43, 44 or 45.
 fn separators(random: &mut Random) -> Vec<usize> {
-    let mut found = vec![random.below(2)];
-    while found[found.len() - 1] < CELLS - 2 {
-        let last = found[found.len() - 1];
-        found.push((last + random.between(2, 3)).min(CELLS - 1));
+    let mut next = random.below(2);
+    let mut found = vec![next];
+    while next < LAST_CELL - 1 {
+        next += random.between(2, 3);
+        found.extend((next < CELLS).then_some(next));
     }
     found
 }
@@ -111,27 +122,45 @@ pub fn unwritten(random: &mut Random) -> Cells {
     without_data(&separators(random))
 }
 
-/// The separators of a well-formed word, one of which is missing.
+/// The separators of a well-formed word, one of which is missing; at the end, any in cell 44 or 45.
 fn separators_with_hole(random: &mut Random, hole: Hole) -> Vec<usize> {
     let mut separators = separators(random);
     let last = separators.len() - 1;
-    separators.remove(match hole {
-        Hole::Start => 0,
-        Hole::Middle => random.between(1, last - 1),
-        Hole::End => last,
-    });
+    match hole {
+        Hole::Start => separators.retain(|&cell| cell > 1),
+        Hole::Middle => drop(separators.remove(random.between(1, last - 1))),
+        Hole::End => separators.retain(|&cell| cell < LAST_CELL - 1),
+    }
     separators
 }
 
-/// A word that is not well formed: one separator of a well-formed word is missing, with its data.
+/// The word of these separators with its hole. A well-formed word may end in cell 43: for a hole at the end, a separator
+/// there is missing as well, with its data.
+fn opened(mut cells: Cells, separators: &[usize], hole: Hole) -> Cells {
+    if matches!(hole, Hole::End) && separators.ends_with(&[LAST_CELL - 2]) {
+        cells[LAST_CELL - 2..].fill(false);
+    }
+    cells
+}
+
+/// A word that is not well formed: one separator of a well-formed word is missing, with its data; at the end, what there
+/// is from cell 43 on.
 pub fn with_hole(random: &mut Random, hole: Hole) -> Cells {
     let separators = separators_with_hole(random, hole);
-    with_data(random, &separators)
+    opened(with_data(random, &separators), &separators, hole)
 }
 
 /// A word that is not well formed, with no data cell set.
 pub fn with_bare_hole(random: &mut Random, hole: Hole) -> Cells {
-    without_data(&separators_with_hole(random, hole))
+    let separators = separators_with_hole(random, hole);
+    opened(without_data(&separators), &separators, hole)
+}
+
+/// The filled word without one of its separators but 45, which is a hole.
+pub fn without_separator(random: &mut Random, mut filled: Cells) -> Cells {
+    let set: Vec<usize> = (0..LAST_CELL).filter(|&cell| filled[cell]).collect();
+    filled[random.pick(&set)] = false;
+    filled
 }
 
 /// A well-formed word with one data cell set.
@@ -179,7 +208,8 @@ pub fn any_argument(random: &mut Random) -> u64 {
 #[cfg(test)]
 mod tests {
     use super::*;
-    use crate::word;
+    use crate::word::{self, filled, filled_earlier, open, separators_from};
+    use std::collections::HashSet;
 
     #[test]
     fn damaged_words_are_damaged() {
@@ -196,6 +226,43 @@ mod tests {
             }
             let written = with_one_data_cell(&mut random);
             assert!(word::well_formed(&written) && !word::unwritten(&written));
+            let legal = legal_word(any_value(&mut random));
+            for cells in [filled(&legal), filled_earlier(&legal)] {
+                assert!(!word::well_formed(&without_separator(&mut random, cells)));
+            }
         }
+    }
+
+    /// A well-formed word ends in one separator or two from cell 43 on; with a hole at the end, in none.
+    #[test]
+    fn every_end_of_a_word() {
+        let mut random = Random::new(2);
+        let sound: HashSet<_> = (0..500).map(|_| separators_from(&unwritten(&mut random), 43)).collect();
+        assert_eq!(sound, HashSet::from([vec![43], vec![44], vec![45], vec![43, 45]]));
+        let written: HashSet<_> = (0..500).map(|_| separators_from(&well_formed(&mut random), 43)).collect();
+        assert_eq!(written, sound);
+        for _ in 0..500 {
+            assert_eq!(separators_from(&with_hole(&mut random, Hole::End), 43), []);
+            assert_eq!(separators_from(&with_bare_hole(&mut random, Hole::End), 43), []);
+        }
+    }
+
+    #[test]
+    fn the_ends_of_the_end_values() {
+        let ends = END_VALUES.map(|value| separators_from(&filled(&legal_word(value)), 40));
+        let wanted = [&[40, 42, 44][..], &[41, 44], &[40, 42, 45], &[42, 45]];
+        let about_43 = [&[40, 43][..], &[41, 43], &[40, 43, 45], &[41, 43, 45]];
+        assert_eq!(ends.to_vec(), [wanted, about_43].concat());
+    }
+
+    /// The earlier fill set cell 45 of these words, which the fill leaves at 0; capacities 22, 15 and 22.
+    #[test]
+    fn the_open_values() {
+        let words = OPEN_VALUES.map(legal_word);
+        assert!(words.iter().all(|legal| open(&filled(legal)) && filled_earlier(legal)[45]));
+        assert_eq!(words.map(|legal| word::capacity(&legal)), [22, 15, 22]);
+        assert_eq!(words.map(|legal| word::pulses(&legal)), [21, 0, 0]);
+        assert_eq!(words[1], std::array::from_fn(|cell| cell % 3 == 1 && cell < 45));
+        assert_eq!(words[2], std::array::from_fn(|cell| cell % 2 == 1 && cell < 45));
     }
 }
