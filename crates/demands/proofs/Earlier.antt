@@ -14,13 +14,13 @@ use Rattle.answer.specs.Answer.{result, refusal}
 use Rattle.answer.proofs.Chains.{refused-leaves, taken-leaves}
 use Rattle.window.specs.Words.{pageWords, Words}
 use Rattle.word.specs.Word.{sparse, legal}
-use Rattle.word.specs.Fill.{read, capacity, isFilled}
+use Rattle.word.specs.Fill.{read, isFilled}
 use Rattle.word.specs.Earlier.{fillEarlier, capacityEarlier}
 use Rattle.word.proofs.Earlier.{length-earlier, earlier-words}
 use Rattle.rows.specs.Page.{page256, sumOver, capacityAll, readAll, putAll, secondPage}
 use Rattle.rows.proofs.EachWord.{Each, each-sparse, each-word, Row}
 use Rattle.rows.proofs.SecondWords.{row-putAll}
-use Rattle.filled.specs.Answer.{roomFilled, fillPageLeaves, pageCapacityAnswer}
+use Rattle.filled.specs.Answer.{fillPageLeaves, pageCapacityAnswer}
 use Rattle.second.specs.Answer.{writeSecondAnswer, writeSecondLeaves, readSecondAnswer, readSecondLeaves}
 use Rattle.demands.specs.Demands.{FirstRound, Filled, Fits, outcome, dataCells, filledCells}
 use Rattle.demands.specs.Earlier.{fillEarlierAll, roomEarlier, filledEarlier, outcomeEarlier, EarlierPages}
