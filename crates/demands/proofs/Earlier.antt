@@ -8,8 +8,6 @@ use mathlib.Core.Path.{_≡_, refl, sym, ap, ap₂, _∙_, subst}
 use Prim.Native.Nat.{ℕ, suc, _+_, _*_, _≤_, _<_}
 use native.Mathlib.Omega.{arith}
 use lib.ListN.{length, drop, length-append}
-use Rattle.cells.specs.Bytes.{bits}
-use Rattle.cells.proofs.Bytes.{Bytes-drop}
 use Rattle.answer.specs.Answer.{result, refusal}
 use Rattle.answer.proofs.Chains.{refused-leaves, taken-leaves}
 use Rattle.window.specs.Words.{pageWords, Words}
@@ -17,14 +15,14 @@ use Rattle.word.specs.Word.{sparse, legal}
 use Rattle.word.specs.Fill.{read, isFilled}
 use Rattle.word.specs.Earlier.{fillEarlier, capacityEarlier}
 use Rattle.word.proofs.Earlier.{length-earlier, earlier-words}
-use Rattle.rows.specs.Page.{page256, sumOver, capacityAll, readAll, putAll, secondPage}
+use Rattle.rows.specs.Page.{page256, sumOver, capacityAll, readAll, secondPage}
 use Rattle.rows.proofs.EachWord.{Each, each-sparse, each-word, Row}
-use Rattle.rows.proofs.SecondWords.{row-putAll}
 use Rattle.filled.specs.Answer.{fillPageLeaves, pageCapacityAnswer}
 use Rattle.second.specs.Answer.{writeSecondAnswer, writeSecondLeaves, readSecondAnswer, readSecondLeaves}
 use Rattle.demands.specs.Demands.{FirstRound, Filled, Fits, outcome, dataCells, filledCells}
 use Rattle.demands.specs.Earlier.{fillEarlierAll, roomEarlier, filledEarlier, outcomeEarlier, EarlierPages}
-use Rattle.demands.proofs.Laid.{wordBytes, sound256, laid, tail, laid-words, laid-tail, laid-filled, laid-row, length-tail, laid-put, laid-state, laid-secondPage}
+use Rattle.demands.proofs.Laid.{sound256, laid-row}
+use Rattle.demands.proofs.FilledPages.{over-words, over-filled, over-second}
 use Rattle.demands.proofs.Bounds.{capacity-is, room-is}
 use Rattle.demands.proofs.TwiceWritten.{most-bytes}
 use Rattle.demands.proofs.Demands.{demand1, demand2, demand3}
@@ -70,27 +68,19 @@ module _ (P : List ℕ) (p : FirstRound P) where
   abbrev F : List ℕ
   F = filledEarlier P
 
-  abbrev t : List ℕ
-  t = tail (wordBytes page256) P
-
   row-of : Row 44 earlier
   row-of = row-earlier 44 words (laid-row sound256 P (p .sized))
 
-  filled-is : F ≡ laid 3 0 0 earlier t
-  unfolding filledEarlier
-  filled-is = rw (p .byte1-zero, p .byte2-zero) at (laid-state sound256 P (p .of-bytes) (p .sized) 3 earlier (omega arith) row-of)
+  all-filled : Each isFilled earlier
+  all-filled = filled-all words (each-sparse words (each-word legal P 44 (p .words-legal)))
 
   filled-filled : Filled F
-  filled-filled =
-      rw filled-is
-      (laid-filled sound256 earlier t row-of (filled-all words (each-sparse words (each-word legal P 44 (p .words-legal))))
-      (Bytes-drop (wordBytes page256) (drop 3 P) (Bytes-drop 3 P (p .of-bytes))) (length-tail sound256 P (p .sized)))
+  unfolding filledEarlier
+  filled-filled = over-filled sound256 P p earlier row-of all-filled
 
   filled-words : pageWords F 44 ≡ earlier
-  filled-words = ap (λ (G : List ℕ). pageWords G 44) filled-is ∙ laid-words sound256 3 0 0 earlier row-of t
-
-  filled-tail : tail (wordBytes page256) F ≡ t
-  filled-tail = ap (tail (wordBytes page256)) filled-is ∙ laid-tail sound256 3 0 0 earlier row-of t
+  unfolding filledEarlier
+  filled-words = over-words sound256 P p earlier row-of all-filled
 
   capacity-same : roomEarlier P ≡ dataCells P
   capacity-same = sym (same-sum words) ∙ capacity-is P p
@@ -111,18 +101,10 @@ module _ (P : List ℕ) (p : FirstRound P) where
   now = demand2 .filled F .0 filled-filled
 
   module _ (R : List ℕ) (r : Fits R P) where
-    short : length R < 256
-    short = omega (arith, most-bytes sound256 P R p r)
-
     -- a record over it leaves the outcome of then
     outcome-is : secondPage page256 F R ≡ outcomeEarlier P R
-    unfolding outcomeEarlier
-    outcome-is =
-        let q = filled-filled in
-        (rw (q .byte2-zero) at (laid-secondPage sound256 F (q .of-bytes) (q .sized) R short))
-        ∙ ap₂ (λ (ws : List (List Bool)) (l : List ℕ). laid 7 (length R) 0 (putAll ws (bits R)) l) filled-words filled-tail
-        ∙ sym (rw (p .byte2-zero) at (laid-put sound256 P (p .of-bytes) (p .sized) 7 (length R) (putAll earlier (bits R)) (omega arith) short
-        (row-putAll 44 earlier (bits R) row-of)))
+    unfolding filledEarlier outcomeEarlier
+    outcome-is = over-second sound256 P p earlier row-of all-filled R (omega (arith, most-bytes sound256 P R p r))
 
     accepted : (writeSecondAnswer F R ≡ result 0) × (writeSecondLeaves F R ≡ outcomeEarlier P R)
     accepted =

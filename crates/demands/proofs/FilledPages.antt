@@ -15,7 +15,7 @@ use Rattle.cells.proofs.Bytes.{Bytes-drop}
 use Rattle.cells.proofs.Kept.{kept-bits}
 use Rattle.answer.specs.Answer.{result}
 use Rattle.answer.proofs.Chains.{taken-leaves}
-use Rattle.window.specs.Words.{pageWords, Words}
+use Rattle.window.specs.Words.{pageWords, putWords, Words}
 use Rattle.word.specs.Word.{legal}
 use Rattle.word.specs.Fill.{fill, isFilled}
 use Rattle.word.specs.Claims.{Legal}
@@ -23,11 +23,11 @@ use Rattle.word.proofs.Claims.{well-formed-words}
 use Rattle.word.proofs.Filling.{length-fill}
 use Rattle.rows.specs.Page.{Shape, page256, fillAll, capacityAll, readAll, putAll, outcomeOf, filledPage, secondPage, FirstRoundOf, FilledOf, FitsOf}
 use Rattle.rows.proofs.EachWord.{Each, each-sparse, each-word, Row}
-use Rattle.rows.proofs.SecondWords.{capacity-count, row-fillAll}
+use Rattle.rows.proofs.SecondWords.{capacity-count, row-fillAll, row-putAll}
 use Rattle.page.proofs.FirstAnswers.{check-taken}
 use Rattle.filled.specs.Answer.{fillPageAnswer, fillPageLeaves, roomFilled}
 use Rattle.demands.specs.Demands.{FirstRound, pagePulses}
-use Rattle.demands.proofs.Laid.{wordBytes, Sound, laid, tail, rewritten, laid-words, laid-tail, laid-first, laid-filled, laid-row, length-tail, laid-round, laid-round-filled, laid-filledPage, laid-secondPage}
+use Rattle.demands.proofs.Laid.{wordBytes, Sound, laid, tail, rewritten, laid-words, laid-tail, laid-first, laid-filled, laid-row, length-tail, laid-round, laid-round-filled, laid-put, laid-state, laid-secondPage}
 use Rattle.demands.proofs.Kept.{kept-fillAll, kept-putAll, header-filled, header-second, kept-laid}
 use Rattle.demands.proofs.TwiceWritten.{most-bytes, outcome-is, outcome-row, outcome-sized}
 
@@ -73,6 +73,34 @@ module _ {σ : Shape} (f : Sound σ) where
   abbrev m : ℕ
   m = wordBytes σ
 
+  -- a first-round page whose words give way to filled ones, whichever fill has made them, in state 03: what it holds, and what a record leaves
+  -- of it
+  module _ (P : List ℕ) (p : FirstRoundOf σ P) (ws : List (List Bool)) (r : Row n ws) (h : Each isFilled ws) where
+    abbrev over : List ℕ
+    over = putWords (3 ∷ drop 1 P) ws
+
+    over-is : over ≡ laid 3 0 0 ws (tail m P)
+    over-is = rw (p .byte1-zero, p .byte2-zero) at (laid-state f P (p .of-bytes) (p .sized) 3 ws (omega arith) r)
+
+    pub over-words : pageWords over n ≡ ws
+    over-words = ap (λ (F : List ℕ). pageWords F n) over-is ∙ laid-words f 3 0 0 ws r (tail m P)
+
+    over-tail : tail m over ≡ tail m P
+    over-tail = ap (tail m) over-is ∙ laid-tail f 3 0 0 ws r (tail m P)
+
+    pub over-filled : FilledOf σ over
+    over-filled =
+        rw over-is
+        (laid-filled f ws (tail m P) r h (Bytes-drop m (drop 3 P) (Bytes-drop 3 P (p .of-bytes))) (length-tail f P (p .sized)))
+
+    pub over-second : (R : List ℕ) → length R < 256 → secondPage σ over R ≡ putWords (7 ∷ length R ∷ drop 2 P) (putAll ws (bits R))
+    over-second R s =
+        let q = over-filled in
+        (rw (q .byte2-zero) at (laid-secondPage f over (q .of-bytes) (q .sized) R s))
+        ∙ ap₂ (λ (vs : List (List Bool)) (t : List ℕ). laid 7 (length R) 0 (putAll vs (bits R)) t) over-words over-tail
+        ∙ sym (rw (p .byte2-zero) at (laid-put f P (p .of-bytes) (p .sized) 7 (length R) (putAll ws (bits R)) (omega arith) s
+        (row-putAll n ws (bits R) r)))
+
   module _ (P : List ℕ) (p : FirstRoundOf σ P) where
     abbrev words : List (List Bool)
     words = pageWords P n
@@ -86,20 +114,20 @@ module _ {σ : Shape} (f : Sound σ) where
     legal-of : Each legal words
     legal-of = each-word legal P n (p .words-legal)
 
+    filled-all : Each isFilled (fillAll words)
+    filled-all = filled-fillAll words (row-of .1) legal-of
+
     pub filled-is : filledPage σ P ≡ laid 3 0 0 (fillAll words) (tail m P)
-    filled-is = rw (p .byte1-zero, p .byte2-zero) at (laid-filledPage f P (p .of-bytes) (p .sized))
+    unfolding filledPage
+    filled-is = over-is P p (fillAll words) row-filled filled-all
 
     pub filled-words : pageWords (filledPage σ P) n ≡ fillAll words
-    filled-words = ap (λ (F : List ℕ). pageWords F n) filled-is ∙ laid-words f 3 0 0 (fillAll words) row-filled (tail m P)
-
-    filled-tail : tail m (filledPage σ P) ≡ tail m P
-    filled-tail = ap (tail m) filled-is ∙ laid-tail f 3 0 0 (fillAll words) row-filled (tail m P)
+    unfolding filledPage
+    filled-words = over-words P p (fillAll words) row-filled filled-all
 
     pub filled-filled : FilledOf σ (filledPage σ P)
-    filled-filled =
-        rw filled-is
-        (laid-filled f (fillAll words) (tail m P) row-filled (filled-fillAll words (row-of .1) legal-of)
-        (Bytes-drop m (drop 3 P) (Bytes-drop 3 P (p .of-bytes))) (length-tail f P (p .sized)))
+    unfolding filledPage
+    filled-filled = over-filled P p (fillAll words) row-filled filled-all
 
     -- its data cells are those that the capacity counts
     pub filled-room : roomFilled σ (filledPage σ P) ≡ capacityAll words
@@ -118,13 +146,8 @@ module _ {σ : Shape} (f : Sound σ) where
     module _ (R : List ℕ) (r : FitsOf σ R P) where
       -- the two writings together give the outcome
       pub second-filled : secondPage σ (filledPage σ P) R ≡ outcomeOf σ P R
-      second-filled =
-          let F = filledPage σ P in
-          let q = filled-filled in
-          let s : length R < 256 = omega (arith, most-bytes f P R p r, f .one-byte) in
-          (rw (q .byte2-zero) at (laid-secondPage f F (q .of-bytes) (q .sized) R s))
-          ∙ ap₂ (λ (ws : List (List Bool)) (t : List ℕ). laid 7 (length R) 0 (putAll ws (bits R)) t) filled-words filled-tail
-          ∙ sym (outcome-is f P R p r)
+      unfolding filledPage outcomeOf
+      second-filled = over-second P p (fillAll words) row-filled filled-all R (omega (arith, most-bytes f P R p r, f .one-byte))
 
       -- no cell is cleared
       pub writing-clears-none : (i b : ℕ) → T (bit (getD (filledPage σ P) i 0) b) → T (bit (getD (outcomeOf σ P R) i 0) b)

@@ -14,7 +14,7 @@ use Rattle.window.specs.Words.{join, pageWords, putWords, pageOf}
 use Rattle.window.proofs.Words.{putWords-all, putWords-own, bits-pageOf, length-pageOf, Bytes-pageOf, pageWords-pageOf}
 use Rattle.word.specs.Word.{legal}
 use Rattle.word.specs.Fill.{isFilled}
-use Rattle.rows.specs.Page.{page256, Shape, state, byte1, byte2, firstWords, firstPage, fillAll, putAll, outcomeOf, filledPage, secondPage, FirstRoundOf, FilledOf}
+use Rattle.rows.specs.Page.{page256, Shape, state, byte1, byte2, firstWords, firstPage, fillAll, putAll, outcomeOf, secondPage, FirstRoundOf, FilledOf}
 use Rattle.rows.proofs.EachWord.{Each, word-each, Row, row-page}
 use Rattle.rows.proofs.FirstRecord.{row-firstWords}
 use Rattle.rows.proofs.SecondWords.{row-fillAll, row-putAll}
@@ -157,11 +157,6 @@ module _ {σ : Shape} (f : Sound σ) where
     pub laid-firstPage : (bs : List ℕ) → firstPage σ page bs ≡ laid 1 (byte1 page) (byte2 page) (firstWords n bs) (tail m page)
     unfolding firstPage
     laid-firstPage bs = laid-state 1 (firstWords n bs) (omega arith) (row-firstWords n bs)
-
-    -- the fill
-    pub laid-filledPage : filledPage σ page ≡ laid 3 (byte1 page) (byte2 page) (fillAll (pageWords page n)) (tail m page)
-    unfolding filledPage
-    laid-filledPage = laid-state 3 (fillAll (pageWords page n)) (omega arith) (row-fillAll n (pageWords page n) (laid-row page l))
 
     -- a record written over the words as they are, and over the filled words
     pub laid-secondPage : (bs : List ℕ) → length bs < 256
