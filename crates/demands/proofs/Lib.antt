@@ -10,3 +10,4 @@ pub mod Bounds
 pub mod Pulses
 pub mod Demands
 pub mod Earlier
+pub mod Outcome

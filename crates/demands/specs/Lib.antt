@@ -2,3 +2,4 @@
 pub mod Demands
 pub mod Pulses
 pub mod Earlier
+pub mod Outcome
