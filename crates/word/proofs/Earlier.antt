@@ -4,7 +4,7 @@ use mathlib.Core.Bool.{Bool, true, false, cond, not, _&&_, _||_}
 use mathlib.Core.List.{List, [], _∷_, dropLast}
 use mathlib.Core.Logic.{_↔_}
 use mathlib.Core.Path.{_≡_, refl, sym, ap, _∙_}
-use Prim.Native.Nat.{suc, _+_}
+use Prim.Native.Nat.{suc, _+_, _≤_}
 use native.Mathlib.Omega.{arith}
 use lib.Dec.{T}
 use lib.ListN.{length}
@@ -42,6 +42,21 @@ unfolding setOrEnd fillFrom earlierFrom first
 before-last left [] = refl
 before-last left (c ∷ []) = refl
 before-last left (c ∷ d ∷ cs) = ap (λ l. (c || not (left || d)) ∷ l) (before-last (c || not (left || d)) (d ∷ cs))
+
+-- the earlier fill set the last cell where that and the cell before it were 0; before a single cell there is `left`
+last-set : (left c : Bool) (cs : List Bool)
+    → last (earlierFrom left (c ∷ cs)) ≡ (last (c ∷ cs) || not (last (left ∷ dropLast (earlierFrom left (c ∷ cs)))))
+unfolding earlierFrom last first
+last-set left true [] = refl
+last-set true false [] = refl
+last-set false false [] = refl
+last-set left c (d ∷ cs) = last-set (c || not (left || d)) d cs
+
+set-last : (w : List Bool) → 1 ≤ length w → last (fillEarlier w) ≡ (last w || not (last (dropLast (fillEarlier w))))
+unfolding fillEarlier earlierFrom last first
+set-last [] h = absurd (omega arith)
+set-last (c ∷ []) h = last-set false c []
+set-last (c ∷ d ∷ cs) h = last-set false c (d ∷ cs)
 
 -- the earlier fill set one cell more where it added the last
 one-more : (left : Bool) (cs : List Bool)
@@ -162,6 +177,7 @@ pub earlier-words : EarlierWords
 unfolding fill fillEarlier
 earlier-words = record {
   before-last = λ w. before-last false w;
+  last-set = set-last;
   fewer = λ w. fewer false w;
   spared = spared;
   same-capacity = same-capacity;
