@@ -210,7 +210,8 @@ example =
     ∙ two-lines
 
 pub lines-right : LinesRight
-lines-right = record { example = example }
+unfolding lineOf decimal digits
+lines-right = record { example = example; filled-line = refl; second-line = refl; bad-line = refl }
 
 -- ---- the listing
 

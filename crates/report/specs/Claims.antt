@@ -46,6 +46,10 @@ pub record KindsExact : Type 0 where
 pub record LinesRight : Type 0 where
   -- "For a blank page followed by a page made from 176 zero bytes the whole output is"
   pub example : listingOf (blank ++ firstPage page256 blank (replicate 176 0)) ≡ ascii "0 blank 0\n1 first 1012\n"
+  -- and a line of each kind that it has not
+  pub filled-line : lineOf 12 (Filled 660) ≡ ascii "12 filled 660\n"
+  pub second-line : lineOf 4095 (Second 82) ≡ ascii "4095 second 82\n"
+  pub bad-line : lineOf 307 (Bad 7) ≡ ascii "307 bad 7\n"
 
 pub record ListingRight : Type 0 where
   -- "For each page it prints one line"

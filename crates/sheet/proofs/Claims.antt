@@ -81,7 +81,7 @@ unfolding sheetOf sheetLine countsOf piecesOf tallyFrom decimal digits signed
 empty = ap (λ (ps : List (List ℕ)). sheetLine (tallyOf ps)) (pieces-none 4096) ∙ refl
 
 pub sheet-right : SheetRight
-unfolding sheetOf piecesOf
+unfolding sheetOf piecesOf sheetLine countsOf decimal digits signed
 sheet-right = record {
   first-page = λ c. refl;
   filled-page = λ c. refl;
@@ -105,5 +105,6 @@ sheet-right = record {
   most = λ n l h. ap (λ (ps : List (List ℕ)). sheetLine (tallyOf ps)) (pieces-most 4096 n l h);
   turns = λ k buffer l h. turns-tally 4096 k 0 noPages buffer l h refl;
   example = example;
+  places = refl;
   empty = empty;
 }

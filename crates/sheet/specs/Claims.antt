@@ -14,7 +14,7 @@ use Rattle.report.specs.Kinds.{kindOf}
 use Rattle.report.specs.Listing.{piecesOf, firstTurn}
 use Rattle.report.specs.declared.Kind.{Kind}
 use Rattle.report.specs.declared.Kind.the-variants.{Blank, First, Filled, Second, Bad}
-use Rattle.sheet.specs.Sheet.{gainOf, noPages, tallied, tallyOf, Tallies, sheetOf, turnsTally}
+use Rattle.sheet.specs.Sheet.{gainOf, noPages, tallied, tallyOf, Tallies, sheetLine, sheetOf, turnsTally}
 
 -- a kind's place among the counts of the line
 abbrev pub place : Kind → ℕ
@@ -79,5 +79,8 @@ pub record SheetRight : Type 0 where
   -- "For the two-page input of the listing example the whole output is"
   pub example : sheetOf (blank ++ firstPage page256 blank (replicate 176 0))
       ≡ ascii "pages 2 blank 1 first 1 filled 0 second 0 bad 0 gain -640\n"
+  -- with another number in each place: each count stands after its own name
+  pub places : sheetLine (record { pages = 15; blank = 1; first = 2; filled = 3; second = 4; bad = 5; gain = pos 6 })
+      ≡ ascii "pages 15 blank 1 first 2 filled 3 second 4 bad 5 gain 6\n"
   -- and for no input
   pub empty : sheetOf [] ≡ ascii "pages 0 blank 0 first 0 filled 0 second 0 bad 0 gain 0\n"
