@@ -14,7 +14,7 @@ returns : tie.Need-returns
 returns c = search needs
 
 returns-2 : tie.Need-returns-2
-returns-2 c = sym (take-all _ _ (c .if1 .left))
+returns-2 c = let a = c .before .args in sym (take-all (a .n) (a .page .now) (omega (arith, c .if1 .left)))
 
 pub piece-of-spec : {M : Type 1} → statement M
 piece-of-spec = tie.close (tie.spec slice-aggregate-result returns returns-2)
