@@ -1,5 +1,5 @@
 -- The capacity of a first-round page: it is the number of its data cells after the fill, is answered before and after it, lies from 660 to
--- 1,012 bits with both ends met, and so 82 bytes always fit. They are demand 3's parts on capacity.
+-- 1,012 bits with both ends met, and is the room with which the fill code compares a record. They are demand 3's parts on capacity.
 -- Assumes nothing.
 use mathlib.Core.Bool.{Bool}
 use mathlib.Core.List.{List, [], _∷_}
@@ -8,21 +8,23 @@ use mathlib.Core.Path.{_≡_, refl, sym, ap, ap₂, _∙_, subst}
 use Prim.Native.Nat.{ℕ, _+_, _*_, _≤_}
 use native.Mathlib.Omega.{arith}
 use lib.ListN.{length, replicate}
-use Rattle.cells.specs.Bytes.{Bytes}
 use Rattle.answer.specs.Answer.{result}
 use Rattle.window.specs.Words.{pageWords}
 use Rattle.word.specs.Word.{sparse, legal}
 use Rattle.word.specs.Fill.{capacity}
 use Rattle.word.specs.Claims.{Legal}
 use Rattle.word.proofs.Claims.{capacity-bounds}
-use Rattle.rows.specs.Page.{Shape, page256, FirstRoundOf, fillAll, sumOver, capacityAll, filledPage}
+use Rattle.rows.specs.Page.{Shape, page256, stateFirst, FirstRoundOf, fillAll, sumOver, capacityAll, readAll}
+use Rattle.rows.specs.Code.{fillCode}
 use Rattle.rows.proofs.EachWord.{Each, each-sparse, each-word, each-replicate, row-replicate}
 use Rattle.rows.proofs.Sums.{sumOver-replicate, capacity-bounds-all}
-use Rattle.filled.specs.Answer.{roomFilled, pageCapacityAnswer}
+use Rattle.rows.proofs.SecondWords.{capacity-count}
+use Rattle.filled.specs.Answer.{roomFilled, pageCapacityAnswer, fillPageLeaves}
 use Rattle.filled.proofs.FilledAnswers.{capacity-taken}
-use Rattle.demands.specs.Demands.{FirstRound, Filled, Fits, dataCellsAll, dataCells, filledCells}
-use Rattle.demands.proofs.Laid.{laid, Sound, sound256, laid-row, laid-words, laid-first}
-use Rattle.demands.proofs.FilledPages.{filled-words, filled-filled, filled-room, filled-exactly}
+use Rattle.demands.specs.Demands.{FirstRound, Filled, words, roomOver, dataCellsAll, dataCells, filledCells}
+use Rattle.demands.proofs.Laid.{laid, Sound, sound256, laid-row, laid-words, laid-open}
+use Rattle.demands.proofs.Coded.{ahead-words}
+use Rattle.demands.proofs.Codes.{fill-laws, told-fill, ahead-fill, fill-twice}
 
 -- of words without neighbours
 capacity-dataCells : (ws : List (List Bool)) → Each sparse ws → capacityAll ws ≡ dataCellsAll (fillAll ws)
@@ -32,19 +34,19 @@ capacity-dataCells (w ∷ ws) h = ap₂ (λ (a b : ℕ). a + b) (capacity-bounds
 
 -- of a first-round page of any shape
 module _ {σ : Shape} (P : List ℕ) (f : FirstRoundOf σ P) where
-  abbrev words : List (List Bool)
-  words = pageWords P (σ .words)
+  abbrev ws : List (List Bool)
+  ws = pageWords P (σ .words)
 
-  legal-words : Each legal words
-  legal-words = each-word legal P (σ .words) (f .words-legal)
+  legal-words : Each legal ws
+  legal-words = each-word legal P (σ .words) (f .words-pass)
 
-  pub capacity-of : capacityAll words ≡ dataCellsAll (fillAll words)
-  capacity-of = capacity-dataCells words (each-sparse words legal-words)
+  pub capacity-of : capacityAll ws ≡ dataCellsAll (fillAll ws)
+  capacity-of = capacity-dataCells ws (each-sparse ws legal-words)
 
-  pub bounds-of : Sound σ → (15 * σ .words ≤ dataCellsAll (fillAll words)) × (dataCellsAll (fillAll words) ≤ 23 * σ .words)
+  pub bounds-of : Sound σ → (15 * σ .words ≤ dataCellsAll (fillAll ws)) × (dataCellsAll (fillAll ws) ≤ 23 * σ .words)
   bounds-of s =
       let r = laid-row s P (f .sized) in
-      omega (arith, r .0, capacity-of, capacity-bounds-all words (r .1) legal-words)
+      omega (arith, r .0, capacity-of, capacity-bounds-all ws (r .1) legal-words)
 
 -- ---- document 01's page
 
@@ -55,21 +57,25 @@ pub capacity-counts : (P : List ℕ) → FirstRound P → pageCapacityAnswer P �
 capacity-counts P f = capacity-taken page256 P (dataCells P) (f .of-bytes) .1 (inl (f, sym (capacity-is P f)))
 
 -- of a filled page: the fill of P has as many data cells, and each filled page is such a fill
-pub room-of-fill : (P : List ℕ) → FirstRound P → roomFilled page256 (filledPage page256 P) ≡ dataCells P
-room-of-fill P f = filled-room sound256 P f ∙ capacity-is P f
+filled-words : (P : List ℕ) → FirstRound P → words (fillPageLeaves P) ≡ fillAll (words P)
+filled-words P f = ahead-words sound256 fill-laws told-fill ahead-fill P f
 
-cells-of-fill : (P : List ℕ) → FirstRound P → filledCells (filledPage page256 P) ≡ dataCells P
-cells-of-fill P f = ap dataCellsAll (filled-words sound256 P f)
+pub room-of-fill : (P : List ℕ) → FirstRound P → roomFilled page256 (fillPageLeaves P) ≡ dataCells P
+room-of-fill P f =
+    ap (λ (ws : List (List Bool)). length (readAll ws)) (filled-words P f) ∙ sym (capacity-count (words P)) ∙ capacity-is P f
+
+cells-of-fill : (P : List ℕ) → FirstRound P → filledCells (fillPageLeaves P) ≡ dataCells P
+cells-of-fill P f = ap dataCellsAll (filled-words P f)
 
 pub room-is : (F : List ℕ) → Filled F → roomFilled page256 F ≡ filledCells F
 room-is F q =
-    let o = filled-exactly sound256 F .0 q in
+    let o = fill-twice .ready F .0 q in
     subst (λ (G : List ℕ). roomFilled page256 G ≡ filledCells G) (o .2) (room-of-fill (o .0) (o .1) ∙ sym (cells-of-fill (o .0) (o .1)))
 
-pub room-stays : (P : List ℕ) → FirstRound P → pageCapacityAnswer (filledPage page256 P) ≡ result (dataCells P)
+pub room-stays : (P : List ℕ) → FirstRound P → pageCapacityAnswer (fillPageLeaves P) ≡ result (dataCells P)
 room-stays P f =
-    let q = filled-filled sound256 P f in
-    capacity-taken page256 (filledPage page256 P) (dataCells P) (q .of-bytes) .1 (inr (q, sym (room-of-fill P f)))
+    let q = fill-twice .ready (fillPageLeaves P) .1 (P, f, refl) in
+    capacity-taken page256 (fillPageLeaves P) (dataCells P) (q .of-bytes) .1 (inr (q, sym (room-of-fill P f)))
 
 -- from 660 to 1,012
 pub bounds : (P : List ℕ) → FirstRound P → (660 ≤ dataCells P) × (dataCells P ≤ 1012)
@@ -77,7 +83,7 @@ bounds P f = bounds-of P f sound256
 
 pub least-filled : (F : List ℕ) → Filled F → 660 ≤ roomFilled page256 F
 least-filled F q =
-    let o = filled-exactly sound256 F .0 q in
+    let o = fill-twice .ready F .0 q in
     subst (λ (G : List ℕ). 660 ≤ roomFilled page256 G) (o .2) (omega (arith, room-of-fill (o .0) (o .1), bounds (o .0) (o .1)))
 
 -- the page of 44 times one word
@@ -86,7 +92,7 @@ all-alike w h =
     let ws = replicate 44 w in
     let r = row-replicate 44 w (h .0) in (
       laid 1 0 0 ws [],
-      laid-first sound256 ws [] r (each-replicate legal 44 w (h .1)) (λ i. omega arith) refl,
+      laid-open sound256 stateFirst legal ws [] (omega arith) r (each-replicate legal 44 w (h .1)) (λ i. omega arith) refl,
       laid-words sound256 1 0 0 ws r [],
     )
 
@@ -102,7 +108,7 @@ least-met = let m = capacity-bounds .least-met in capacity-met (m .0) 15 (m .1) 
 pub greatest-met : (P : List ℕ) × FirstRound P × (pageCapacityAnswer P ≡ result 1012)
 greatest-met = let m = capacity-bounds .greatest-met in capacity-met (m .0) 23 (m .1) (m .2)
 
--- ---- "and so every record of up to 82 bytes fits each first-round page"
+-- ---- the room with which a record is compared
 
-pub eighty-two : (P R : List ℕ) → FirstRound P → Bytes R → length R ≤ 82 → Fits R P
-eighty-two P R f b h = record { of-bytes = b; room = omega (arith, bounds P f, capacity-is P f) }
+pub room-over : (P R : List ℕ) → FirstRound P → roomOver fillCode P R ≡ dataCells P
+room-over P R f = sym (capacity-count (words P)) ∙ capacity-is P f

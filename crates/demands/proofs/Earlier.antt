@@ -8,23 +8,25 @@ use mathlib.Core.Path.{_≡_, refl, sym, ap, ap₂, _∙_, subst}
 use Prim.Native.Nat.{ℕ, suc, _+_, _*_, _≤_, _<_}
 use native.Mathlib.Omega.{arith}
 use lib.ListN.{length, drop, length-append}
+use Rattle.cells.specs.Bytes.{bits}
+use Rattle.cells.proofs.Bytes.{Bytes-drop}
 use Rattle.answer.specs.Answer.{result, refusal}
-use Rattle.answer.proofs.Chains.{refused-leaves, taken-leaves}
+use Rattle.answer.proofs.Chains.{taken-leaves}
 use Rattle.window.specs.Words.{pageWords, Words}
 use Rattle.word.specs.Word.{sparse, legal}
 use Rattle.word.specs.Fill.{read, isFilled}
 use Rattle.word.specs.Earlier.{fillEarlier, capacityEarlier}
 use Rattle.word.proofs.Earlier.{length-earlier, earlier-words}
-use Rattle.rows.specs.Page.{page256, sumOver, capacityAll, readAll, secondPage}
+use Rattle.rows.specs.Page.{page256, stateFilled, stateSecond, sumOver, capacityAll, readAll, putAll}
+use Rattle.rows.specs.Code.{fillCode, roomFor, writtenOf}
 use Rattle.rows.proofs.EachWord.{Each, each-sparse, each-word, Row}
+use Rattle.rows.proofs.SecondWords.{row-putAll}
 use Rattle.filled.specs.Answer.{fillPageLeaves, pageCapacityAnswer}
 use Rattle.second.specs.Answer.{writeSecondAnswer, writeSecondLeaves, readSecondAnswer, readSecondLeaves}
-use Rattle.demands.specs.Demands.{FirstRound, Filled, Fits, outcome, dataCells, filledCells}
+use Rattle.demands.specs.Demands.{FirstRound, Filled, Fits, outcome, roomOver, dataCells, filledCells}
 use Rattle.demands.specs.Earlier.{fillEarlierAll, roomEarlier, filledEarlier, outcomeEarlier, EarlierPages}
-use Rattle.demands.proofs.Laid.{sound256, laid-row}
-use Rattle.demands.proofs.FilledPages.{over-words, over-filled, over-second}
-use Rattle.demands.proofs.Bounds.{capacity-is, room-is}
-use Rattle.demands.proofs.TwiceWritten.{most-bytes}
+use Rattle.demands.proofs.Laid.{wordBytes, sound256, laid, tail, laid-row, laid-words, laid-tail, laid-open, length-tail, laid-put, laid-state}
+use Rattle.demands.proofs.Bounds.{capacity-is, room-is, room-over}
 use Rattle.demands.proofs.Demands.{demand1, demand2, demand3}
 
 -- ---- words
@@ -72,15 +74,26 @@ module _ (P : List ℕ) (p : FirstRound P) where
   row-of = row-earlier 44 words (laid-row sound256 P (p .sized))
 
   all-filled : Each isFilled earlier
-  all-filled = filled-all words (each-sparse words (each-word legal P 44 (p .words-legal)))
+  all-filled = filled-all words (each-sparse words (each-word legal P 44 (p .words-pass)))
+
+  abbrev t : List ℕ
+  t = tail (wordBytes page256) P
+
+  filled-is : F ≡ laid stateFilled 0 0 earlier t
+  unfolding filledEarlier
+  filled-is = rw (p .byte1-zero, p .byte2-zero) at (laid-state sound256 P (p .of-bytes) (p .sized) stateFilled earlier (omega arith) row-of)
 
   filled-filled : Filled F
-  unfolding filledEarlier
-  filled-filled = over-filled sound256 P p earlier row-of all-filled
+  filled-filled =
+      subst Filled (sym filled-is)
+      (laid-open sound256 stateFilled isFilled earlier t (omega arith) row-of all-filled
+      (Bytes-drop (wordBytes page256) (drop 3 P) (Bytes-drop 3 P (p .of-bytes))) (length-tail sound256 P (p .sized)))
 
   filled-words : pageWords F 44 ≡ earlier
-  unfolding filledEarlier
-  filled-words = over-words sound256 P p earlier row-of all-filled
+  filled-words = ap (λ (G : List ℕ). pageWords G 44) filled-is ∙ laid-words sound256 stateFilled 0 0 earlier row-of t
+
+  filled-tail : tail (wordBytes page256) F ≡ t
+  filled-tail = ap (tail (wordBytes page256)) filled-is ∙ laid-tail sound256 stateFilled 0 0 earlier row-of t
 
   capacity-same : roomEarlier P ≡ dataCells P
   capacity-same = sym (same-sum words) ∙ capacity-is P p
@@ -88,52 +101,72 @@ module _ (P : List ℕ) (p : FirstRound P) where
   room : filledCells F ≡ roomEarlier P
   room = sym (room-is F filled-filled) ∙ ap (λ (ws : List (List Bool)). length (readAll ws)) filled-words ∙ count-all words
 
+  room-for : (R : List ℕ) → roomEarlier P ≡ roomFor fillCode page256 F R
+  room-for R = sym (demand3 .filled-room F R filled-filled ∙ room)
+
   capacity-stays : pageCapacityAnswer F ≡ result (roomEarlier P)
   capacity-stays = demand1 .page-capacity F (roomEarlier P) (filled-filled .of-bytes) .1 (inr (filled-filled, sym room))
 
   remains : (R : List ℕ) → roomEarlier P < 8 * length R → (writeSecondAnswer F R ≡ refusal 8 (roomEarlier P)) × (writeSecondLeaves F R ≡ F)
   remains R h =
-      let a = demand1 .write-second-8 F R (roomEarlier P) (filled-filled .of-bytes) .1 (filled-filled, sym room, h) in
-      (a, refused-leaves (writeSecondAnswer F R) F (secondPage page256 F R) 8 (roomEarlier P) a)
+      let a = demand1 .write-second .refused-8 F R (roomEarlier P) (filled-filled .of-bytes) .1 (filled-filled, room-for R, h) in
+      (a, demand1 .write-second .refused-leaves F R 8 (roomEarlier P) a)
 
   -- the first-round page whose fill it is now
   now : (Q : List ℕ) × FirstRound Q × (fillPageLeaves Q ≡ F)
-  now = demand2 .filled F .0 filled-filled
+  now = demand2 .fill-code .ready F .0 filled-filled
 
-  module _ (R : List ℕ) (r : Fits R P) where
+  module _ (R : List ℕ) (r : Fits fillCode R P) where
+    abbrev put-words : List (List Bool)
+    put-words = putAll earlier (bits R)
+
+    put-row : Row 44 put-words
+    put-row = row-putAll 44 earlier (bits R) row-of
+
+    small : length R < 256
+    small = omega (arith, demand3 .fill-code .never-in P R p r)
+
     -- a record over it leaves the outcome of then
-    outcome-is : secondPage page256 F R ≡ outcomeEarlier P R
-    unfolding filledEarlier outcomeEarlier
-    outcome-is = over-second sound256 P p earlier row-of all-filled R (omega (arith, most-bytes sound256 P R p r))
+    outcome-is : writtenOf fillCode page256 F R ≡ outcomeEarlier P R
+    unfolding writtenOf outcomeEarlier
+    outcome-is =
+        let q = filled-filled in
+        (rw (q .byte2-zero) at (laid-put sound256 F (q .of-bytes) (q .sized) stateSecond (length R) (putAll (pageWords F 44) (bits R)) (omega arith) small
+        (row-putAll 44 (pageWords F 44) (bits R) (laid-row sound256 F (q .sized)))))
+        ∙ ap₂ (λ (ws : List (List Bool)) (u : List ℕ). laid stateSecond (length R) 0 (putAll ws (bits R)) u) filled-words filled-tail
+        ∙ sym (rw (p .byte2-zero) at (laid-put sound256 P (p .of-bytes) (p .sized) stateSecond (length R) put-words (omega arith) small put-row))
+
+    room-same : roomOver fillCode P R ≡ roomEarlier P
+    room-same = room-over P R p ∙ sym capacity-same
 
     accepted : (writeSecondAnswer F R ≡ result 0) × (writeSecondLeaves F R ≡ outcomeEarlier P R)
     accepted =
         let a : writeSecondAnswer F R ≡ result 0 =
-        demand1 .write-second F R 0 (filled-filled .of-bytes) .1
-        (filled-filled, omega (arith, room, capacity-same, r .room, capacity-is P p), refl) in
-        (a, taken-leaves (writeSecondAnswer F R) F (secondPage page256 F R) 0 a ∙ outcome-is)
+        demand1 .write-second .accepted F R 0 (filled-filled .of-bytes) .1
+        (filled-filled, omega (arith, room-for R, room-same, r .enough), refl) in
+        (a, taken-leaves (writeSecondAnswer F R) F (writtenOf fillCode page256 F R) 0 a ∙ outcome-is)
 
     abbrev Q : List ℕ
     Q = now .0
 
     -- R fits that page too, and leaves the same outcome over it
-    fits : Fits R Q
+    fits : Fits fillCode R Q
     fits =
         let c : result (dataCells Q) ≡ result (roomEarlier P) = sym (demand3 .capacity-stays Q (now .1)) ∙ ap pageCapacityAnswer (now .2) ∙ capacity-stays in
         let e : dataCells Q ≡ roomEarlier P = cc in
-        record { of-bytes = r .of-bytes; room = omega (arith, e, capacity-same, r .room, capacity-is P p, capacity-is Q (now .1)) }
+        record { of-bytes = r .of-bytes; enough = omega (arith, e, room-same, r .enough, room-over Q R (now .1)) }
 
     written-now : writeSecondLeaves (fillPageLeaves Q) R ≡ outcomeEarlier P R
     written-now = ap (λ (G : List ℕ). writeSecondLeaves G R) (now .2) ∙ accepted .1
 
-    same-outcome : outcome Q R ≡ outcomeEarlier P R
-    same-outcome = sym (demand3 .accepted Q R (now .1) fits .1) ∙ written-now
+    same-outcome : outcome fillCode Q R ≡ outcomeEarlier P R
+    same-outcome = sym (demand3 .fill-code .accepted Q R (now .1) fits .1) ∙ written-now
 
     read-back : (out : List ℕ) → length R ≤ length out
         → (readSecondAnswer (outcomeEarlier P R) out ≡ result (length R)) × (readSecondLeaves (outcomeEarlier P R) out ≡ R ++ drop (length R) out)
     read-back out l =
         subst (λ (O : List ℕ). (readSecondAnswer O out ≡ result (length R)) × (readSecondLeaves O out ≡ R ++ drop (length R) out)) same-outcome
-        (demand3 .read-back Q R out (now .1) fits l)
+        (demand3 .fill-code .read-back Q R out (now .1) fits l)
 
 pub earlier-pages : EarlierPages
 earlier-pages = record {

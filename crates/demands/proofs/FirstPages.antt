@@ -14,13 +14,13 @@ use Rattle.window.specs.Words.{wordAt, pageWords}
 use Rattle.window.proofs.Words.{length-pageWords, getD-pageWords}
 use Rattle.word.specs.Word.{sum, legal, zeckendorf}
 use Rattle.word.proofs.Claims.{one-legal-word}
-use Rattle.rows.specs.Page.{page256, Shape, blankOf, firstWords, firstRecord, firstPage, FirstRoundOf}
+use Rattle.rows.specs.Page.{page256, Shape, stateFirst, blankOf, firstWords, firstRecord, firstPage, FirstRoundOf}
 use Rattle.rows.proofs.EachWord.{each-word}
 use Rattle.rows.proofs.FirstRecord.{value-le, row-firstWords, legal-firstWords, getD-firstWords, length-firstRecord, Bytes-firstRecord, firstRecord-firstWords, firstWords-firstRecord}
 use Rattle.page.specs.Answer.{writeFirstAnswer, writeFirstLeaves, readFirstAnswer, readFirstLeaves}
 use Rattle.page.proofs.FirstAnswers.{write-first, read-first}
 use Rattle.demands.specs.Demands.{blank, FirstRound, valueAt}
-use Rattle.demands.proofs.Laid.{wordBytes, sound256, Sound, laid, tail, tail-none, laid-row, laid-words, laid-first, laid-firstPage, laid-round}
+use Rattle.demands.proofs.Laid.{wordBytes, sound256, Sound, laid, tail, tail-none, laid-row, laid-words, laid-open, laid-firstPage, laid-round}
 
 -- ---- a page with nothing after its words
 
@@ -53,7 +53,7 @@ module _ {σ : Shape} (f : Sound σ) (s : σ .size ≡ 3 + wordBytes σ) where
   pub first-written : (bs : List ℕ) → FirstRoundOf σ (firstPage σ (blankOf size) bs)
   first-written bs =
       rw (firstPage-blank bs)
-      (laid-first f (firstWords n bs) [] (row-firstWords n bs) (legal-firstWords n bs) (λ i. omega arith) (omega arith))
+      (laid-open f stateFirst legal (firstWords n bs) [] (omega arith) (row-firstWords n bs) (legal-firstWords n bs) (λ i. omega arith) (omega arith))
 
   pub words-written : (bs : List ℕ) → pageWords (firstPage σ (blankOf size) bs) n ≡ firstWords n bs
   words-written bs =
@@ -66,8 +66,8 @@ module _ {σ : Shape} (f : Sound σ) (s : σ .size ≡ 3 + wordBytes σ) where
       let r = laid-row f P (p .sized) in
       firstPage-blank (firstRecord ws)
       ∙ ap₂ (laid 1 0 0)
-      (rw (r .0) at (firstWords-firstRecord ws (r .1) (each-word legal P n (p .words-legal)))) (sym (tail-none m P (omega arith)))
-      ∙ laid-round f P p
+      (rw (r .0) at (firstWords-firstRecord ws (r .1) (each-word legal P n (p .words-pass)))) (sym (tail-none m P (omega arith)))
+      ∙ laid-round f stateFirst legal P p
 
 -- ---- demand 2
 

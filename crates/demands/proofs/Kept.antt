@@ -1,24 +1,23 @@
--- Cells that are kept: over words that are filled and over filled words with second bits, and over pages of them.
+-- Cells that are kept: over words that are filled, and over pages.
 -- Assumes nothing.
 use mathlib.Core.Bool.{Bool, false}
 use mathlib.Core.List.{List, [], _∷_, _++_}
-use mathlib.Core.Path.{_≡_, refl, sym}
+use mathlib.Core.Path.{_≡_, refl, sym, _∙_}
 use Prim.Native.Nat.{ℕ}
 use native.Mathlib.Omega.{arith}
 use lib.Dec.{T}
-use lib.ListN.{length, drop}
+use lib.ListN.{length}
 use Rattle.cells.specs.Cells.{first, rest, bit, cells, kept}
 use Rattle.cells.specs.Bytes.{bits}
+use Rattle.cells.proofs.Numbers.{length-cells}
 use Rattle.cells.proofs.Kept.{kept-append, kept-self}
 use Rattle.window.specs.Words.{join}
 use Rattle.window.proofs.Words.{length-join}
-use Rattle.word.specs.Word.{sparse}
-use Rattle.word.specs.Fill.{fill, read, put}
-use Rattle.word.proofs.Claims.{fill-leaves-no-room, second-bits-kept}
+use Rattle.word.specs.Fill.{fill}
+use Rattle.word.proofs.Claims.{fill-leaves-no-room}
 use Rattle.word.proofs.Filling.{length-fill}
-use Rattle.word.proofs.SecondBits.{length-put}
-use Rattle.rows.specs.Page.{Shape, fillAll, putAll}
-use Rattle.rows.proofs.EachWord.{Each, Row}
+use Rattle.rows.specs.Page.{Shape, fillAll}
+use Rattle.rows.proofs.EachWord.{Row}
 use Rattle.demands.proofs.Laid.{Sound, laid, laid-bits}
 
 -- ---- words
@@ -29,28 +28,18 @@ kept-fillAll [] = tt
 kept-fillAll (w ∷ ws) =
     kept-append w (join ws) (fill w) (join (fillAll ws)) (sym (length-fill false w)) (fill-leaves-no-room .keeps w) (kept-fillAll ws)
 
-pub kept-putAll : (ws : List (List Bool)) (l : List Bool) → Each sparse ws → T (kept (join (fillAll ws)) (join (putAll (fillAll ws) l)))
-unfolding join putAll fillAll kept put
-kept-putAll [] l h = tt
-kept-putAll (w ∷ ws) l h =
-    let r = drop (length (read (fill w))) l in
-    kept-append (fill w) (join (fillAll ws)) (put (fill w) l) (join (putAll (fillAll ws) r))
-    (sym (length-put false (fill w) l))
-    (second-bits-kept .keeps-filled w l (h .0))
-    (kept-putAll ws r (h .1))
-
--- ---- headers: state 01 becomes 03, then 07, and byte 1, which is 0, any byte
+-- ---- headers: the state gains cells, and the length, which is 0, becomes any byte
 
 abbrev Header : ℕ → ℕ → List ℕ
 Header a k = a ∷ k ∷ 0 ∷ []
 
-pub header-filled : T (kept (bits (Header 1 0)) (bits (Header 3 0)))
-unfolding kept bits cells bit first rest
-header-filled = tt
-
-pub header-second : (k : ℕ) → T (kept (bits (Header 3 0)) (bits (Header 7 k)))
-unfolding kept bits cells bit first rest
-header-second k = tt
+header-kept : (a b k : ℕ) → T (kept (cells 8 a) (cells 8 b)) → T (kept (bits (Header a 0)) (bits (Header b k)))
+unfolding bits
+header-kept a b k h =
+    kept-append (cells 8 a) (bits (0 ∷ 0 ∷ [])) (cells 8 b) (bits (k ∷ 0 ∷ [])) (length-cells 8 a ∙ sym (length-cells 8 b)) h zeros-kept
+  where
+    zeros-kept : T (kept (bits (0 ∷ 0 ∷ [])) (bits (k ∷ 0 ∷ [])))
+    zeros-kept = unfold kept bits cells bit first rest in tt
 
 same-length : (a b k : ℕ) → length (bits (Header a 0)) ≡ length (bits (Header b k))
 unfolding bits cells
@@ -59,13 +48,13 @@ same-length a b k = refl
 -- ---- pages
 
 pub kept-laid : {σ : Shape} → Sound σ → (a b k : ℕ) (ws vs : List (List Bool)) (t : List ℕ) → Row (σ .words) ws → Row (σ .words) vs
-    → T (kept (bits (Header a 0)) (bits (Header b k))) → T (kept (join ws) (join vs))
+    → T (kept (cells 8 a) (cells 8 b)) → T (kept (join ws) (join vs))
     → T (kept (bits (laid a 0 0 ws t)) (bits (laid b k 0 vs t)))
 kept-laid {σ} f a b k ws vs t r s h j =
     rw (laid-bits f a 0 0 ws r t, laid-bits f b k 0 vs s t)
     (kept-append (bits (Header a 0)) (join ws ++ bits t) (bits (Header b k)) (join vs ++ bits t)
     (same-length a b k)
-    h
+    (header-kept a b k h)
     (kept-append (join ws) (bits t) (join vs) (bits t)
     (omega (arith, length-join ws (r .1), length-join vs (s .1), r .0, s .0))
     j

@@ -12,12 +12,9 @@ use Rattle.cells.specs.Bytes.{bits, bytes, Bytes}
 use Rattle.cells.proofs.Bytes.{length-bytes, Bytes-drop}
 use Rattle.window.specs.Words.{join, pageWords, putWords, pageOf}
 use Rattle.window.proofs.Words.{putWords-all, putWords-own, bits-pageOf, length-pageOf, Bytes-pageOf, pageWords-pageOf}
-use Rattle.word.specs.Word.{legal}
-use Rattle.word.specs.Fill.{isFilled}
-use Rattle.rows.specs.Page.{page256, Shape, state, byte1, byte2, firstWords, firstPage, fillAll, putAll, outcomeOf, secondPage, FirstRoundOf, FilledOf}
+use Rattle.rows.specs.Page.{page256, Shape, state, byte1, byte2, withHeader, firstWords, firstPage, OpenOf}
 use Rattle.rows.proofs.EachWord.{Each, word-each, Row, row-page}
 use Rattle.rows.proofs.FirstRecord.{row-firstWords}
-use Rattle.rows.proofs.SecondWords.{row-fillAll, row-putAll}
 
 -- the page of these three bytes, words and last bytes
 abbrev pub laid : ℕ → ℕ → ℕ → List (List Bool) → List ℕ → List ℕ
@@ -30,25 +27,18 @@ tail m page = drop m (drop 3 page)
 pub tail-none : (m : ℕ) (page : List ℕ) → length page ≤ 3 + m → tail m page ≡ []
 tail-none m page h = drop-drop m 3 page ∙ drop-of-length-le page h
 
--- the words after the fill and a second record
-abbrev pub rewritten : ℕ → List ℕ → List ℕ → List (List Bool)
-rewritten n page bs = putAll (fillAll (pageWords page n)) (bits bs)
-
 -- the bytes that the words take
 abbrev pub wordBytes : Shape → ℕ
 wordBytes σ = 46 * σ .words / 8
 
--- a shape of page that its laws hold for: its words take whole bytes after the first three, inside the page; a record that fits has at most
--- the longest one's bytes, which one byte can tell
+-- a shape of page that its laws hold for: its words take whole bytes after the first three, inside the page
 pub record Sound (σ : Shape) : Type 0 where
   pub whole : 46 * σ .words ≡ 8 * wordBytes σ
   pub inside : 3 + wordBytes σ ≤ σ .size
-  pub enough : 23 * σ .words < 8 * suc (σ .secondBytes)
-  pub one-byte : σ .secondBytes < 256
 
 -- document 01's page
 pub sound256 : Sound page256
-sound256 = record { whole = refl; inside = omega arith; enough = omega arith; one-byte = omega arith }
+sound256 = record { whole = refl; inside = omega arith }
 
 Bytes-three : (a b c : ℕ) (l : List ℕ) → a < 256 → b < 256 → c < 256 → Bytes l → Bytes (a ∷ b ∷ c ∷ l)
 Bytes-three a b c l ha hb hc hl zero = ha
@@ -87,41 +77,24 @@ module _ {σ : Shape} (f : Sound σ) where
     unfolding pageOf
     laid-tail = drop-at (bytes (46 * length ws / 8) (join ws)) t m (omega (arith, length-bytes (46 * length ws / 8) (join ws), whole-row ws r))
 
-  Bytes-laid : (a : ℕ) (ws : List (List Bool)) (t : List ℕ) → a < 256 → Row n ws → Bytes t → Bytes (laid a 0 0 ws t)
-  Bytes-laid a ws t ha r b =
-      Bytes-pageOf ws m (r .1) (whole-row ws r) (a ∷ 0 ∷ 0 ∷ []) t
-      (Bytes-three a 0 0 [] ha (omega arith) (omega arith) (λ i. omega arith)) b
+    pub laid-Bytes : a < 256 → b < 256 → c < 256 → Bytes t → Bytes (laid a b c ws t)
+    laid-Bytes ha hb hc ht =
+        Bytes-pageOf ws m (r .1) (whole-row ws r) (a ∷ b ∷ c ∷ []) t (Bytes-three a b c [] ha hb hc (λ i. omega arith)) ht
 
-  -- legal words after the bytes 1, 0, 0 are a first-round page
-  pub laid-first : (ws : List (List Bool)) (t : List ℕ) → Row n ws → Each legal ws → Bytes t → 3 + (m + length t) ≡ σ .size
-      → FirstRoundOf σ (laid 1 0 0 ws t)
+  -- words that pass a test, after a header without a record
+  pub laid-open : (k : ℕ) (test : List Bool → Bool) (ws : List (List Bool)) (t : List ℕ) → k < 256 → Row n ws → Each test ws → Bytes t
+      → 3 + (m + length t) ≡ σ .size → OpenOf k test σ (laid k 0 0 ws t)
   unfolding pageOf
-  laid-first ws t r h b s = record {
-    sized = laid-length 1 0 0 ws r t ∙ s;
-    of-bytes = Bytes-laid 1 ws t (omega arith) r b;
+  laid-open k test ws t hk r h b s = record {
+    sized = laid-length k 0 0 ws r t ∙ s;
+    of-bytes = laid-Bytes k 0 0 ws r t hk (omega arith) (omega arith) b;
     in-state = refl;
     byte1-zero = refl;
     byte2-zero = refl;
-    words-legal = word-each legal (laid 1 0 0 ws t) n ws (laid-words 1 0 0 ws r t) h;
-  }
-
-  -- filled words after the bytes 3, 0, 0 are a filled page
-  pub laid-filled : (ws : List (List Bool)) (t : List ℕ) → Row n ws → Each isFilled ws → Bytes t → 3 + (m + length t) ≡ σ .size
-      → FilledOf σ (laid 3 0 0 ws t)
-  unfolding pageOf
-  laid-filled ws t r h b s = record {
-    sized = laid-length 3 0 0 ws r t ∙ s;
-    of-bytes = Bytes-laid 3 ws t (omega arith) r b;
-    in-state = refl;
-    byte1-zero = refl;
-    byte2-zero = refl;
-    words-filled = word-each isFilled (laid 3 0 0 ws t) n ws (laid-words 3 0 0 ws r t) h;
+    words-pass = word-each test (laid k 0 0 ws t) n ws (laid-words k 0 0 ws r t) h;
   }
 
   -- ---- each page is one, and stays one
-
-  pub row-rewritten : (ws : List (List Bool)) (l : List Bool) → Row n ws → Row n (putAll (fillAll ws) l)
-  row-rewritten ws l r = row-putAll n (fillAll ws) l (row-fillAll n ws r)
 
   pub laid-row : (page : List ℕ) → length page ≡ σ .size → Row n (pageWords page n)
   laid-row page l = row-page page n (omega arith)
@@ -132,7 +105,7 @@ module _ {σ : Shape} (f : Sound σ) where
   module _ (page : List ℕ) (hp : Bytes page) (l : length page ≡ σ .size) where
     -- the first two bytes and the words replaced
     pub laid-put : (a b : ℕ) (ws : List (List Bool)) → a < 256 → b < 256 → Row n ws
-        → putWords (a ∷ b ∷ drop 2 page) ws ≡ laid a b (byte2 page) ws (tail m page)
+        → putWords (withHeader a b page) ws ≡ laid a b (byte2 page) ws (tail m page)
     laid-put a b ws ha hb r =
         let p : List ℕ = a ∷ b ∷ byte2 page ∷ drop 3 page in
         ap (λ (x : List ℕ). putWords (a ∷ b ∷ x) ws) (drop-cons page 2 0 (omega arith))
@@ -158,22 +131,6 @@ module _ {σ : Shape} (f : Sound σ) where
     unfolding firstPage
     laid-firstPage bs = laid-state 1 (firstWords n bs) (omega arith) (row-firstWords n bs)
 
-    -- a record written over the words as they are, and over the filled words
-    pub laid-secondPage : (bs : List ℕ) → length bs < 256
-        → secondPage σ page bs ≡ laid 7 (length bs) (byte2 page) (putAll (pageWords page n) (bits bs)) (tail m page)
-    unfolding secondPage
-    laid-secondPage bs s =
-        laid-put 7 (length bs) (putAll (pageWords page n) (bits bs)) (omega arith) s (row-putAll n (pageWords page n) (bits bs) (laid-row page l))
-
-    pub laid-outcome : (bs : List ℕ) → length bs < 256
-        → outcomeOf σ page bs ≡ laid 7 (length bs) (byte2 page) (rewritten n page bs) (tail m page)
-    unfolding outcomeOf
-    laid-outcome bs s = laid-put 7 (length bs) (rewritten n page bs) (omega arith) s (row-rewritten (pageWords page n) (bits bs) (laid-row page l))
-
-  -- a first-round page, by its words
-  pub laid-round : (P : List ℕ) → FirstRoundOf σ P → laid 1 0 0 (pageWords P n) (tail m P) ≡ P
-  laid-round P p = rw (p .in-state, p .byte1-zero, p .byte2-zero) at (laid-own P (p .of-bytes) (p .sized))
-
-  -- a filled page likewise
-  pub laid-round-filled : (F : List ℕ) → FilledOf σ F → laid 3 0 0 (pageWords F n) (tail m F) ≡ F
-  laid-round-filled F p = rw (p .in-state, p .byte1-zero, p .byte2-zero) at (laid-own F (p .of-bytes) (p .sized))
+  -- a page without a record, by its words
+  pub laid-round : (k : ℕ) (test : List Bool → Bool) (P : List ℕ) → OpenOf k test σ P → laid k 0 0 (pageWords P n) (tail m P) ≡ P
+  laid-round k test P p = rw (p .in-state, p .byte1-zero, p .byte2-zero) at (laid-own P (p .of-bytes) (p .sized))

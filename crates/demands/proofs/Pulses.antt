@@ -5,8 +5,9 @@ use mathlib.Core.List.{List, [], _∷_, _++_}
 use mathlib.Core.Path.{_≡_, refl, sym, ap, _∙_}
 use Prim.Native.Nat.{ℕ, _+_, _*_, _≤_}
 use native.Mathlib.Omega.{arith}
+use lib.Dec.{T}
 use lib.ListN.{length, drop}
-use Rattle.cells.specs.Cells.{first, rest, bit, cells, setCells, newlySet}
+use Rattle.cells.specs.Cells.{first, rest, bit, cells, kept, setCells, newlySet}
 use Rattle.cells.specs.Bytes.{bits, Bytes}
 use Rattle.cells.proofs.Bytes.{length-bits}
 use Rattle.cells.proofs.Pulses.{setCells-append, pulses-newly, pulses-exact}
@@ -16,16 +17,19 @@ use Rattle.word.specs.Word.{legal}
 use Rattle.word.specs.Fill.{fill, fillPulses}
 use Rattle.word.specs.Claims.{Legal}
 use Rattle.word.proofs.Claims.{pulse-bounds}
-use Rattle.rows.specs.Page.{Shape, page256, state, fillAll, sumOver, pulsesAll, filledPage, FirstRoundOf}
-use Rattle.rows.proofs.EachWord.{each-word}
+use Rattle.rows.specs.Page.{Shape, page256, state, stateFirst, fillAll, sumOver, pulsesAll, filledPage, FirstRoundOf, FilledOf}
+use Rattle.rows.specs.Code.{fillCode}
+use Rattle.rows.proofs.EachWord.{each-word, Row}
 use Rattle.rows.proofs.Sums.{sumOver-replicate, sumOver-bounds}
 use Rattle.page.proofs.FirstAnswers.{check-taken}
 use Rattle.filled.specs.Answer.{pulsesOf, fillPageAnswer, fillPageLeaves}
 use Rattle.demands.specs.Demands.{FirstRound, pagePulses}
 use Rattle.demands.specs.Pulses.{PulsesOfAFill}
-use Rattle.demands.proofs.Laid.{wordBytes, Sound, sound256, tail, laid-bits, laid-rest, laid-round}
+use Rattle.demands.proofs.Laid.{wordBytes, Sound, sound256, tail, laid, laid-row, laid-bits, laid-rest, laid-round}
 use Rattle.demands.proofs.Bounds.{all-alike}
-use Rattle.demands.proofs.FilledPages.{row-of, row-filled, filled-is, filled-filled, fill-kept, fill-taken, fill-leaves}
+use Rattle.demands.proofs.Laws.{Told}
+use Rattle.demands.proofs.Coded.{prep-row, ahead-is, ahead-ready, ahead-kept}
+use Rattle.demands.proofs.Codes.{fill-laws, told-fill, ahead-filled, fill-taken, fill-leaves}
 
 -- ---- words
 
@@ -47,7 +51,7 @@ header-cells : (setCells (bits (3 ∷ 0 ∷ 0 ∷ [])) ≡ 2) × (setCells (bits
 unfolding setCells bits cells bit
 header-cells = (refl, refl)
 
-module _ {σ : Shape} (f : Sound σ) (P : List ℕ) (p : FirstRoundOf σ P) where
+module _ {σ : Shape} (f : Sound σ) (told : Told fillCode σ) (P : List ℕ) (p : FirstRoundOf σ P) where
   abbrev n : ℕ
   n = σ .words
 
@@ -57,21 +61,39 @@ module _ {σ : Shape} (f : Sound σ) (P : List ℕ) (p : FirstRoundOf σ P) wher
   abbrev t : List ℕ
   t = tail (wordBytes σ) P
 
+  row : Row n words
+  row = laid-row f P (p .sized)
+
+  filled-row : Row n (fillAll words)
+  filled-row = prep-row f fill-laws told (ahead-filled f) P p
+
+  round : laid 1 0 0 words t ≡ P
+  round = laid-round f stateFirst legal P p
+
+  filled-is : filledPage σ P ≡ laid 3 0 0 (fillAll words) t
+  filled-is = ahead-is f fill-laws told (ahead-filled f) P p
+
+  fill-kept : T (kept (bits P) (bits (filledPage σ P)))
+  fill-kept = ahead-kept f fill-laws told (ahead-filled f) P p
+
+  filled-filled : FilledOf σ (filledPage σ P)
+  filled-filled = ahead-ready f fill-laws told (ahead-filled f) P p
+
   most-of : pulsesOf σ P ≤ 23 * n
   most-of =
-      let r = row-of f P p in
+      let r = row in
       omega (
         arith,
         r .0,
-        sumOver-bounds fillPulses 0 23 (λ w l. (omega arith, pulse-bounds .greatest w l)) words (r .1) (each-word legal P n (p .words-legal)),
+        sumOver-bounds fillPulses 0 23 (λ w l. (omega arith, pulse-bounds .greatest w l)) words (r .1) (each-word legal P n (p .words-pass)),
       )
 
   -- before and after, without the header
   rest-before : bits (drop 3 P) ≡ join words ++ bits t
-  rest-before = ap (λ (Q : List ℕ). bits (drop 3 Q)) (sym (laid-round f P p)) ∙ laid-rest f 1 0 0 words (row-of f P p) t
+  rest-before = ap (λ (Q : List ℕ). bits (drop 3 Q)) (sym round) ∙ laid-rest f 1 0 0 words row t
 
   rest-after : bits (drop 3 (filledPage σ P)) ≡ join (fillAll words) ++ bits t
-  rest-after = ap (λ (Q : List ℕ). bits (drop 3 Q)) (filled-is f P p) ∙ laid-rest f 3 0 0 (fillAll words) (row-filled f P p) t
+  rest-after = ap (λ (Q : List ℕ). bits (drop 3 Q)) filled-is ∙ laid-rest f 3 0 0 (fillAll words) filled-row t
 
   cells-of : setCells (bits (drop 3 P)) + pulsesOf σ P ≡ setCells (bits (drop 3 (filledPage σ P)))
   cells-of =
@@ -86,15 +108,15 @@ module _ {σ : Shape} (f : Sound σ) (P : List ℕ) (p : FirstRoundOf σ P) wher
 
   -- the whole page
   whole-before : bits P ≡ bits (1 ∷ 0 ∷ 0 ∷ []) ++ (join words ++ bits t)
-  whole-before = ap bits (sym (laid-round f P p)) ∙ laid-bits f 1 0 0 words (row-of f P p) t
+  whole-before = ap bits (sym round) ∙ laid-bits f 1 0 0 words row t
 
   whole-after : bits (filledPage σ P) ≡ bits (3 ∷ 0 ∷ 0 ∷ []) ++ (join (fillAll words) ++ bits t)
-  whole-after = ap bits (filled-is f P p) ∙ laid-bits f 3 0 0 (fillAll words) (row-filled f P p) t
+  whole-after = ap bits filled-is ∙ laid-bits f 3 0 0 (fillAll words) filled-row t
 
   whole-of : newlySet (bits P) (bits (filledPage σ P)) ≡ pulsesOf σ P + 1
   whole-of =
       let F = filledPage σ P in
-      let s = filled-filled f P p in
+      let s = filled-filled in
       let l : length (bits F) ≡ length (bits P) = omega (arith, length-bits F, length-bits P, s .sized, p .sized) in
       omega (
         arith,
@@ -106,13 +128,13 @@ module _ {σ : Shape} (f : Sound σ) (P : List ℕ) (p : FirstRoundOf σ P) wher
         setCells-append (join words) (bits t),
         setCells-append (join (fillAll words)) (bits t),
         cells-fillAll words,
-        pulses-newly (bits P) (bits F) l (fill-kept f P p),
-        pulses-exact (bits P) (bits F) l (fill-kept f P p),
+        pulses-newly (bits P) (bits F) l fill-kept,
+        pulses-exact (bits P) (bits F) l fill-kept,
       )
 
   state-of : newlySet (cells 8 (state P)) (cells 8 (state (filledPage σ P))) ≡ 1
   unfolding newlySet cells bit first rest
-  state-of = rw (p .in-state, filled-filled f P p .in-state) refl
+  state-of = rw (p .in-state, filled-filled .in-state) refl
 
 -- ---- document 01's page
 
@@ -125,16 +147,16 @@ module _ (P : List ℕ) (n : ℕ) (b : Bytes P) (e : fillPageAnswer P ≡ result
   first-round = given .0
 
   most : n ≤ 1012
-  most = omega (arith, given .1, most-of sound256 P first-round)
+  most = omega (arith, given .1, most-of sound256 told-fill P first-round)
 
   cells-after : setCells (bits (drop 3 P)) + n ≡ setCells (bits (drop 3 (fillPageLeaves P)))
-  cells-after = rw (given .1, fill-leaves P first-round) (cells-of sound256 P first-round)
+  cells-after = rw (given .1, fill-leaves P first-round) (cells-of sound256 told-fill P first-round)
 
   state-after : newlySet (cells 8 (state P)) (cells 8 (state (fillPageLeaves P))) ≡ 1
-  state-after = rw (fill-leaves P first-round) (state-of sound256 P first-round)
+  state-after = rw (fill-leaves P first-round) (state-of sound256 told-fill P first-round)
 
   whole-after-fill : newlySet (bits P) (bits (fillPageLeaves P)) ≡ n + 1
-  whole-after-fill = rw (given .1, fill-leaves P first-round) (whole-of sound256 P first-round)
+  whole-after-fill = rw (given .1, fill-leaves P first-round) (whole-of sound256 told-fill P first-round)
 
 pulses-met : (w : List Bool) (c : ℕ) → Legal w → fillPulses w ≡ c → (P : List ℕ) × FirstRound P × (fillPageAnswer P ≡ result (44 * c))
 pulses-met w c h e =

@@ -10,7 +10,8 @@ use Rattle.cells.specs.Bytes.{bits}
 use Rattle.answer.specs.Answer.{result, refusal}
 use Rattle.window.specs.Words.{pageWords, putWords}
 use Rattle.word.specs.Earlier.{fillEarlier, capacityEarlier}
-use Rattle.rows.specs.Page.{sumOver, putAll}
+use Rattle.rows.specs.Page.{stateFilled, stateSecond, withHeader, sumOver, putAll}
+use Rattle.rows.specs.Code.{fillCode}
 use Rattle.filled.specs.Answer.{fillPageLeaves, pageCapacityAnswer}
 use Rattle.second.specs.Answer.{writeSecondAnswer, writeSecondLeaves, readSecondAnswer, readSecondLeaves}
 use Rattle.demands.specs.Demands.{FirstRound, Filled, Fits, dataCells}
@@ -25,11 +26,11 @@ roomEarlier P = sumOver capacityEarlier (pageWords P 44)
 
 -- a first-round page after the earlier fill: state 03, and all words filled
 unfoldable pub filledEarlier : List ℕ → List ℕ
-filledEarlier P = putWords (3 ∷ drop 1 P) (fillEarlierAll (pageWords P 44))
+filledEarlier P = putWords (stateFilled ∷ drop 1 P) (fillEarlierAll (pageWords P 44))
 
 -- the outcome of a record over a first-round page with the earlier fill: whether the two were one operation or, since Change 2, two
 unfoldable pub outcomeEarlier : List ℕ → List ℕ → List ℕ
-outcomeEarlier P R = putWords (7 ∷ length R ∷ drop 2 P) (putAll (fillEarlierAll (pageWords P 44)) (bits R))
+outcomeEarlier P R = putWords (withHeader stateSecond (length R) P) (putAll (fillEarlierAll (pageWords P 44)) (bits R))
 
 -- Of every first-round page P, and every record R that fits it:
 pub record EarlierPages : Type 0 where
@@ -42,13 +43,13 @@ pub record EarlierPages : Type 0 where
   -- page capacity answers for it what it answered then
   pub capacity-stays : (P : List ℕ) → FirstRound P → pageCapacityAnswer (filledEarlier P) ≡ result (roomEarlier P)
   -- write second takes R over it and leaves the outcome that it left then; a record that had no room is refused by 8 with that capacity
-  pub accepted : (P R : List ℕ) → FirstRound P → Fits R P
+  pub accepted : (P R : List ℕ) → FirstRound P → Fits fillCode R P
       → (writeSecondAnswer (filledEarlier P) R ≡ result 0) × (writeSecondLeaves (filledEarlier P) R ≡ outcomeEarlier P R)
   pub remains-filled : (P R : List ℕ) → FirstRound P → roomEarlier P < 8 * length R
       → (writeSecondAnswer (filledEarlier P) R ≡ refusal 8 (roomEarlier P)) × (writeSecondLeaves (filledEarlier P) R ≡ filledEarlier P)
   -- read second reads R back from that outcome alone
-  pub read-back : (P R out : List ℕ) → FirstRound P → Fits R P → length R ≤ length out
+  pub read-back : (P R out : List ℕ) → FirstRound P → Fits fillCode R P → length R ≤ length out
       → (readSecondAnswer (outcomeEarlier P R) out ≡ result (length R)) × (readSecondLeaves (outcomeEarlier P R) out ≡ R ++ drop (length R) out)
   -- ... which is also what filling some first-round page and writing R over it leaves now
-  pub twice-written-by-now : (P R : List ℕ) → FirstRound P → Fits R P
-      → (Q : List ℕ) × FirstRound Q × Fits R Q × (writeSecondLeaves (fillPageLeaves Q) R ≡ outcomeEarlier P R)
+  pub twice-written-by-now : (P R : List ℕ) → FirstRound P → Fits fillCode R P
+      → (Q : List ℕ) × FirstRound Q × Fits fillCode R Q × (writeSecondLeaves (fillPageLeaves Q) R ≡ outcomeEarlier P R)

@@ -3,3 +3,4 @@ pub mod Demands
 pub mod Pulses
 pub mod Earlier
 pub mod Outcome
+pub mod Inspect

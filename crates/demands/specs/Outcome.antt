@@ -11,30 +11,38 @@ use Rattle.cells.specs.Cells.{bit}
 use Rattle.cells.specs.Bytes.{bits, Bytes}
 use Rattle.window.specs.Words.{wordAt, pageWords}
 use Rattle.word.specs.Fill.{fill, put}
-use Rattle.rows.specs.Page.{state, byte1, byte2, capacityAll}
+use Rattle.rows.specs.Page.{state, stateFilled, byte1, byte2, capacityAll}
+use Rattle.rows.specs.Code.{fillCode}
 use Rattle.page.specs.Answer.{writeFirstLeaves}
 use Rattle.filled.specs.Answer.{fillPageLeaves}
 use Rattle.second.specs.Answer.{writeSecondLeaves}
+use Rattle.walk.specs.Walk.{walked}
+use Rattle.inspect.specs.Rows.{takenAll, inspectCode}
+use Rattle.inspect.specs.Answer.{writeInspectLeaves}
 use Rattle.demands.specs.Demands.{FirstRound, Fits, outcome}
 
--- Of every first-round page P, and every record R that fits it:
+-- Of every first-round page P, and every record R that fits it; `WritingOf.header` of specs/Demands.antt has the outcome's header:
 pub record OutcomeByWords : Type 0 where
   -- "Filling turns a first-round page into state 03 (hexadecimal) with bytes 1 and 2 at 0": each word is that word filled
   pub filled-header : (P : List ℕ) → FirstRound P
-      → (state (fillPageLeaves P) ≡ 3) × (byte1 (fillPageLeaves P) ≡ 0) × (byte2 (fillPageLeaves P) ≡ 0)
+      → (state (fillPageLeaves P) ≡ stateFilled) × (byte1 (fillPageLeaves P) ≡ 0) × (byte2 (fillPageLeaves P) ≡ 0)
   pub filled-word : (P : List ℕ) → FirstRound P → (i : ℕ) → i < 44 → wordAt (fillPageLeaves P) i ≡ fill (wordAt P i)
-  -- "writes byte 1 and state 07"; "Byte 2 is 0"
-  pub outcome-header : (P R : List ℕ) → FirstRound P → Fits R P
-      → (state (outcome P R) ≡ 7) × (byte1 (outcome P R) ≡ length R) × (byte2 (outcome P R) ≡ 0)
   -- "Second bits go into the data cells, word 0 first, lower cells first": word i takes the record's bits after those that the words before
   -- it have room for
-  pub outcome-word : (P R : List ℕ) → FirstRound P → Fits R P → (i : ℕ) → i < 44
-      → wordAt (outcome P R) i ≡ put (fill (wordAt P i)) (drop (capacityAll (pageWords P i)) (bits R))
+  pub outcome-word : (P R : List ℕ) → FirstRound P → Fits fillCode R P → (i : ℕ) → i < 44
+      → wordAt (outcome fillCode P R) i ≡ put (fill (wordAt P i)) (drop (capacityAll (pageWords P i)) (bits R))
+  -- "Each word is walked from cell 0": word i with the record's bits after those that the walks of the words before it take
+  pub inspect-word : (P R : List ℕ) → FirstRound P → Fits inspectCode R P → (i : ℕ) → i < 44
+      → wordAt (outcome inspectCode P R) i ≡ walked (wordAt P i) (drop (takenAll (pageWords P i) (bits R)) (bits R))
 
--- "Can the second writing ask the part to clear a cell?" No call does, on any page, with any record, accepted or refused: a bit that is set
--- in a byte of the page that is handed over is set in that byte of the page that the call leaves. Nor does the first writing.
+-- a bit that is set in a byte of P is set in that byte of Q
+abbrev pub Keeps : List ℕ → List ℕ → Type 0
+Keeps P Q = (i b : ℕ) → T (bit (getD P i 0) b) → T (bit (getD Q i 0) b)
+
+-- "Can the second writing ask the part to clear a cell?" No call does, on any page, with any record, accepted or refused, by either code: what
+-- is set in the page that is handed over is set in the page that the call leaves. Nor does the first writing.
 pub record NoCellCleared : Type 0 where
-  pub write-first : (P D : List ℕ) → (i b : ℕ) → T (bit (getD P i 0) b) → T (bit (getD (writeFirstLeaves P D) i 0) b)
-  pub fill-page : (P : List ℕ) → Bytes P → (i b : ℕ) → T (bit (getD P i 0) b) → T (bit (getD (fillPageLeaves P) i 0) b)
-  pub write-second : (P R : List ℕ) → Bytes P → Bytes R
-      → (i b : ℕ) → T (bit (getD P i 0) b) → T (bit (getD (writeSecondLeaves P R) i 0) b)
+  pub write-first : (P D : List ℕ) → Keeps P (writeFirstLeaves P D)
+  pub fill-page : (P : List ℕ) → Bytes P → Keeps P (fillPageLeaves P)
+  pub write-second : (P R : List ℕ) → Bytes P → Bytes R → Keeps P (writeSecondLeaves P R)
+  pub write-inspect : (P R : List ℕ) → Bytes P → Bytes R → Keeps P (writeInspectLeaves P R)

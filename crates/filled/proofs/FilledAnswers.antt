@@ -1,7 +1,7 @@
 -- Just when the check of a filled page and page capacity accept, and when they refuse by each number, over any shape of page.
 -- Assumes nothing.
 use mathlib.Core.Bool.{Bool, true, false, not, and-true}
-use mathlib.Core.List.{List, [], _++_}
+use mathlib.Core.List.{List, []}
 use mathlib.Core.Logic.{_↔_, _⊎_, inl, inr, ⊎-elim, Iff·trans}
 use mathlib.Core.Path.{_≡_, refl, sym, _∙_}
 use Prim.Native.Nat.{ℕ}
@@ -9,63 +9,28 @@ use native.Mathlib.Omega.{arith}
 use borrow.Author.Tests.{eqb-true, eqb-false, ne-eqb}
 use lib.Dec.{eqb}
 use Rattle.cells.specs.Bytes.{Bytes}
-use Rattle.answer.specs.Answer.{result, refusal, Check, answer, numbers, among}
+use Rattle.answer.specs.Answer.{result, refusal, answer, numbers, among}
 use Rattle.answer.proofs.Tells.{nothing-left}
+use Rattle.window.specs.Words.{pageWords}
 use Rattle.word.specs.Word.{legal}
 use Rattle.word.specs.Fill.{isFilled}
-use Rattle.rows.specs.Page.{Shape, state, byte1, byte2, FirstRoundOf, FilledOf}
-use Rattle.page.specs.Terms.{SizedOf, HeaderOf, AllPassOf, LowestBadOf, RefusalsOf}
+use Rattle.rows.specs.Page.{Shape, state, stateFirst, stateFilled, byte1, byte2, FirstRoundOf, FilledOf}
+use Rattle.page.specs.Terms.{SizedOf, HeaderOf, LowestBad, RefusalsOf}
 use Rattle.page.specs.Answer.{firstChecks}
-use Rattle.page.proofs.Headed.{state-refusals, state-later, state-taken}
+use Rattle.page.proofs.Headed.{state-refusals, state-taken}
 use Rattle.page.proofs.FirstAnswers.{check-refusals, check-taken}
 use Rattle.filled.specs.Answer.{filledChecks, capacityChecks, roomFirst, roomFilled, roomOf}
 
 module _ (s : Shape) (P : List ℕ) where
-  -- ---- a filled page, before other checks
-
-  -- its length, header and words together
-  filled-parts : {X : Type 0} → Bytes P → (HeaderOf 3 s P × (AllPassOf s isFilled P × X)) ↔ (FilledOf s P × X)
-  filled-parts b = (
-    λ h. (
-      record {
-        sized = h .0 .0;
-        of-bytes = b;
-        in-state = h .0 .1;
-        byte1-zero = h .0 .2;
-        byte2-zero = h .0 .3;
-        words-filled = h .1 .0;
-      },
-      h .1 .1,
-    ),
-    λ h. let f = h .0 in ((f .sized, f .in-state, f .byte1-zero, f .byte2-zero), (f .words-filled, h .1)),
-  )
-
-  module _ (cs : List Check) (x : ℕ) where
-    pub filled-refusals : (among 1 (numbers cs) ≡ false) × (among 5 (numbers cs) ≡ false) × (among 6 (numbers cs) ≡ false) × (among 7 (numbers cs) ≡ false)
-        → RefusalsOf 3 isFilled s P (answer (filledChecks s P ++ cs) x)
-    unfolding filledChecks
-    filled-refusals f = state-refusals 3 isFilled s P cs x f
-
-    -- a later number, and a result
-    pub filled-later : {X : Type 0} (n i : ℕ) → Bytes P → ¬ (1 ≡ n) × ¬ (5 ≡ n) × ¬ (6 ≡ n) × ¬ (7 ≡ n) → (answer cs x ≡ refusal n i) ↔ X
-        → (answer (filledChecks s P ++ cs) x ≡ refusal n i) ↔ (FilledOf s P × X)
-    unfolding filledChecks
-    filled-later n i b d e = Iff·trans (state-later 3 isFilled s P cs x n i d e) (filled-parts b)
-
-    pub filled-taken : {X : Type 0} (v : ℕ) → Bytes P → (answer cs x ≡ result v) ↔ X
-        → (answer (filledChecks s P ++ cs) x ≡ result v) ↔ (FilledOf s P × X)
-    unfolding filledChecks
-    filled-taken v b e = Iff·trans (state-taken 3 isFilled s P cs x v e) (filled-parts b)
-
   -- ---- the check alone
 
-  pub check-filled-refusals : (x : ℕ) → RefusalsOf 3 isFilled s P (answer (filledChecks s P) x)
+  pub check-filled-refusals : (x : ℕ) → RefusalsOf stateFilled isFilled s P (answer (filledChecks s P) x)
   unfolding filledChecks numbers among
-  check-filled-refusals x = filled-refusals [] x (refl, refl, refl, refl)
+  check-filled-refusals x = state-refusals stateFilled isFilled s P [] x (refl, refl, refl, refl)
 
   pub check-filled-taken : (x v : ℕ) → Bytes P → (answer (filledChecks s P) x ≡ result v) ↔ (FilledOf s P × (v ≡ x))
   unfolding filledChecks
-  check-filled-taken x v b = filled-taken [] x v b (nothing-left x v)
+  check-filled-taken x v b = state-taken stateFilled isFilled s P [] x v b (nothing-left x v)
 
   -- ---- page capacity: in state 03 as the check of a filled page, in any other as that of a first-round page
 
@@ -122,7 +87,7 @@ module _ (s : Shape) (P : List ℕ) where
         λ h. as-first n ∙ r .1 (h .0, ⊎-elim (λ e. e) (λ e. absurd (n e)) (h .1), h .2, h .3),
       ))
 
-  pub capacity-7 : (i : ℕ) → Refused 7 i ↔ ((HeaderOf 1 s P × LowestBadOf s legal P i) ⊎ (HeaderOf 3 s P × LowestBadOf s isFilled P i))
+  pub capacity-7 : (i : ℕ) → Refused 7 i ↔ ((HeaderOf stateFirst s P × LowestBad legal (pageWords P (s .words)) i) ⊎ (HeaderOf stateFilled s P × LowestBad isFilled (pageWords P (s .words)) i))
   capacity-7 i = by-state
       (λ e.
       let r = check-filled-refusals _ .seven i in (

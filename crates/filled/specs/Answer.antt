@@ -10,7 +10,7 @@ use Rattle.answer.specs.Answer.{Answer, result, refusal, Check, refuse, answer,
 use Rattle.window.specs.Words.{pageWords}
 use Rattle.word.specs.Word.{legal}
 use Rattle.word.specs.Fill.{isFilled}
-use Rattle.rows.specs.Page.{Shape, page256, state, byte1, byte2, pulsesAll, capacityAll, filledPage, secondBitsOf}
+use Rattle.rows.specs.Page.{Shape, page256, state, stateFirst, stateFilled, byte1, byte2, pulsesAll, capacityAll, filledPage, secondBitsOf}
 use Rattle.page.specs.Answer.{refuseWord, stateChecks, firstChecks}
 use Rattle.filled.specs.declared.PageFilled.{PageFilled}
 use Rattle.filled.specs.declared.PageFilled.the-variants as pageFilled
@@ -37,7 +37,7 @@ fillPageLeaves page = after (fillPageAnswer page) page (filledPage page256 page)
 
 -- "writing refuses 1, 5 for a state other than 03, 6, 7 for a word that is not well formed or has a data cell set"
 unfoldable pub filledChecks : Shape → List ℕ → List Check
-filledChecks s page = stateChecks 3 isFilled s page
+filledChecks s page = stateChecks stateFilled isFilled s page
 
 -- ---- page capacity
 
@@ -52,13 +52,13 @@ roomFilled s page = length (secondBitsOf s page)
 unfoldable pub capacityChecks : Shape → List ℕ → List Check
 capacityChecks s page =
     refuse (not (eqb (length page) (s .size))) 1 0
-    ∷ refuse (not (eqb (state page) 1) && not (eqb (state page) 3)) 5 0
+    ∷ refuse (not (eqb (state page) stateFirst) && not (eqb (state page) stateFilled)) 5 0
     ∷ refuse (not (eqb (byte1 page) 0) || not (eqb (byte2 page) 0)) 6 0
-    ∷ refuseWord (cond (eqb (state page) 3) isFilled legal) (pageWords page (s .words))
+    ∷ refuseWord (cond (eqb (state page) stateFilled) isFilled legal) (pageWords page (s .words))
     ∷ []
 
 unfoldable pub roomOf : Shape → List ℕ → ℕ
-roomOf s page = cond (eqb (state page) 3) (roomFilled s page) (roomFirst s page)
+roomOf s page = cond (eqb (state page) stateFilled) (roomFilled s page) (roomFirst s page)
 
 abbrev pub pageCapacityAnswer : List ℕ → Answer
 pageCapacityAnswer page = answer (capacityChecks page256 page) (roomOf page256 page)

@@ -1,7 +1,7 @@
 -- Just when write first, read first and the check of a first-round page accept, and when they refuse by each number, over any shape of page.
 -- Assumes nothing.
 use mathlib.Core.Bool.{not}
-use mathlib.Core.List.{List, [], _++_}
+use mathlib.Core.List.{List, []}
 use mathlib.Core.Logic.{_↔_, Iff·trans}
 use mathlib.Core.Path.{_≡_, refl, sym, ap, _∙_}
 use Prim.Native.Nat.{ℕ, _≤_, _<_}
@@ -9,12 +9,12 @@ use native.Mathlib.Omega.{arith}
 use lib.Dec.{eqb}
 use lib.ListN.{length}
 use Rattle.cells.specs.Bytes.{Bytes}
-use Rattle.answer.specs.Answer.{result, refusal, Check, answer, numbers, among}
+use Rattle.answer.specs.Answer.{result, refusal, answer, numbers, among}
 use Rattle.answer.proofs.Tells.{Tells, unequal, less, just, later, taken, nothing-left, flat3}
 use Rattle.word.specs.Word.{legal}
-use Rattle.rows.specs.Page.{Shape, blankOf, FirstRoundOf}
+use Rattle.rows.specs.Page.{Shape, stateFirst, blankOf, FirstRoundOf}
 use Rattle.rows.proofs.Blank.{length-blank, not-blank}
-use Rattle.page.specs.Terms.{SizedOf, HeaderOf, AllPassOf, RefusalsOf}
+use Rattle.page.specs.Terms.{SizedOf, RefusalsOf}
 use Rattle.page.specs.Answer.{writeFirstChecks, firstChecks, readFirstChecks}
 use Rattle.page.proofs.Headed.{not-sized, state-refusals, state-later, state-taken}
 
@@ -51,59 +51,29 @@ module _ (s : Shape) (P D : List ℕ) where
         λ h. (h .0, (h .1, (λ e. h .2 (e ∙ ap blankOf (h .0)), h .3))),
       )
 
--- ---- a first-round page, before other checks
+-- ---- a first-round page
 
 module _ (s : Shape) (P : List ℕ) where
-  -- its length, header and words together
-  first-parts : {X : Type 0} → Bytes P → (HeaderOf 1 s P × (AllPassOf s legal P × X)) ↔ (FirstRoundOf s P × X)
-  first-parts b = (
-    λ h. (
-      record {
-        sized = h .0 .0;
-        of-bytes = b;
-        in-state = h .0 .1;
-        byte1-zero = h .0 .2;
-        byte2-zero = h .0 .3;
-        words-legal = h .1 .0;
-      },
-      h .1 .1,
-    ),
-    λ h. let f = h .0 in ((f .sized, f .in-state, f .byte1-zero, f .byte2-zero), (f .words-legal, h .1)),
-  )
-
-  module _ (cs : List Check) (x : ℕ) where
-    -- a later number, and a result
-    pub first-later : {X : Type 0} (n i : ℕ) → Bytes P → ¬ (1 ≡ n) × ¬ (5 ≡ n) × ¬ (6 ≡ n) × ¬ (7 ≡ n) → (answer cs x ≡ refusal n i) ↔ X
-        → (answer (firstChecks s P ++ cs) x ≡ refusal n i) ↔ (FirstRoundOf s P × X)
-    unfolding firstChecks
-    first-later n i b d e = Iff·trans (state-later 1 legal s P cs x n i d e) (first-parts b)
-
-    pub first-taken : {X : Type 0} (v : ℕ) → Bytes P → (answer cs x ≡ result v) ↔ X
-        → (answer (firstChecks s P ++ cs) x ≡ result v) ↔ (FirstRoundOf s P × X)
-    unfolding firstChecks
-    first-taken v b e = Iff·trans (state-taken 1 legal s P cs x v e) (first-parts b)
-
-  -- ---- the check alone
-
-  pub check-refusals : (x : ℕ) → RefusalsOf 1 legal s P (answer (firstChecks s P) x)
+  -- the check alone
+  pub check-refusals : (x : ℕ) → RefusalsOf stateFirst legal s P (answer (firstChecks s P) x)
   unfolding firstChecks numbers among
-  check-refusals x = state-refusals 1 legal s P [] x (refl, refl, refl, refl)
+  check-refusals x = state-refusals stateFirst legal s P [] x (refl, refl, refl, refl)
 
   pub check-taken : (x v : ℕ) → Bytes P → (answer (firstChecks s P) x ≡ result v) ↔ (FirstRoundOf s P × (v ≡ x))
   unfolding firstChecks
-  check-taken x v b = first-taken [] x v b (nothing-left x v)
+  check-taken x v b = state-taken stateFirst legal s P [] x v b (nothing-left x v)
 
   -- ---- read first
 
   module _ (out : List ℕ) where
     pub read-first : (v : ℕ) → Bytes P → (answer (readFirstChecks s P out) 0 ≡ result v) ↔ (FirstRoundOf s P × (s .firstBytes ≤ length out) × (v ≡ 0))
-    unfolding readFirstChecks
-    read-first v b = Iff·trans (first-taken _ 0 v b (taken (less (length out) (s .firstBytes)) 3 0 _ 0 v (nothing-left 0 v))) flat3
+    unfolding readFirstChecks firstChecks
+    read-first v b = Iff·trans (state-taken stateFirst legal s P _ 0 v b (taken (less (length out) (s .firstBytes)) 3 0 _ 0 v (nothing-left 0 v))) flat3
 
-    pub read-first-1567 : RefusalsOf 1 legal s P (answer (readFirstChecks s P out) 0)
+    pub read-first-1567 : RefusalsOf stateFirst legal s P (answer (readFirstChecks s P out) 0)
     unfolding readFirstChecks firstChecks numbers among
-    read-first-1567 = state-refusals 1 legal s P _ 0 (refl, refl, refl, refl)
+    read-first-1567 = state-refusals stateFirst legal s P _ 0 (refl, refl, refl, refl)
 
     pub read-first-3 : (i : ℕ) → Bytes P → (answer {A = ℕ} (readFirstChecks s P out) 0 ≡ refusal 3 i) ↔ (FirstRoundOf s P × (length out < s .firstBytes) × (i ≡ 0))
-    unfolding readFirstChecks numbers among
-    read-first-3 i b = Iff·trans (first-later _ 0 3 i b (omega arith) (just (less (length out) (s .firstBytes)) 3 0 _ 0 refl i)) flat3
+    unfolding readFirstChecks firstChecks numbers among
+    read-first-3 i b = Iff·trans (state-later stateFirst legal s P _ 0 3 i b (omega arith) (just (less (length out) (s .firstBytes)) 3 0 _ 0 refl i)) flat3

@@ -1,22 +1,24 @@
--- The checks that the rounds share, before others: of the length, the state and the header, and of the words.
+-- The checks that the rounds share, before others: of the length, the state and the header, and of the words of a row.
 -- Assumes nothing.
 use mathlib.Core.Bool.{Bool, false, not, _||_}
 use mathlib.Core.List.{List, [], _∷_, _++_}
 use mathlib.Core.Logic.{_↔_, _⊎_, Iff·trans}
 use mathlib.Core.Path.{_≡_, sym, ap, _∙_, subst}
-use Prim.Native.Nat.{ℕ, _≤_, _<_}
+use Prim.Native.Nat.{ℕ, suc, _≤_, _<_}
+use native.Mathlib.Nat.{lt-of-not-le}
 use native.Mathlib.Omega.{arith}
 use borrow.Author.Tests.{ltb-true, ltb-false}
 use lib.Dec.{T, eqb, ltb}
 use lib.ListN.{length, getD}
+use Rattle.cells.specs.Bytes.{Bytes}
 use Rattle.answer.specs.Answer.{result, refusal, Check, refuse, answer, numbers, among}
 use Rattle.answer.proofs.Tells.{Tells, unequal, either, just, later, taken, flat3, flat4}
 use Rattle.window.specs.Words.{pageWords}
 use Rattle.window.proofs.Words.{length-pageWords, getD-pageWords}
-use Rattle.rows.specs.Page.{Shape, state, byte1, byte2, lowest}
-use Rattle.rows.proofs.Lowest.{lowest-le, passed-before, failed-there}
-use Rattle.rows.proofs.Scanning.{scan-failed, scan-passed, all-passed}
-use Rattle.page.specs.Terms.{SizedOf, HeaderOf, AllPassOf, LowestBadOf, RefusalsOf}
+use Rattle.rows.specs.Page.{Shape, state, byte1, byte2, lowest, OpenOf}
+use Rattle.rows.proofs.Lowest.{lowest-le, lowest-all, passed-before, failed-there}
+use Rattle.rows.proofs.Scanning.{Passed, scan-passed, all-passed}
+use Rattle.page.specs.Terms.{SizedOf, HeaderOf, LowestBad, RefusalsOf}
 use Rattle.page.specs.Answer.{refuseWord, stateChecks}
 
 -- ---- 1, 5 for a state other than k, 6 by a test r, then other checks
@@ -69,51 +71,59 @@ module _ (s : Shape) (P : List ℕ) (k : ℕ) {r : Bool} {E F G : Type 0} (u : T
       (taken (not-sized s P) 1 0 _ x v (taken other-state 5 0 _ x v (taken u 6 0 _ x v e)))
       headed-parts
 
--- ---- 7 by a test of the words, then other checks
+-- ---- 7 by a test of the words of a row, then other checks
+
+module _ (test : List Bool → Bool) (ws : List (List Bool)) where
+  abbrev pub AllPass : Type 0
+  AllPass = (j : ℕ) → j < length ws → T (test (getD ws j []))
+
+  bad-word : Tells (ltb (lowest test ws) (length ws)) (lowest test ws < length ws) AllPass
+  bad-word = record {
+    if-holds = ltb-true (lowest test ws) (length ws);
+    if-not = λ e j h. passed-before test ws j (omega (arith, ltb-false (lowest test ws) (length ws) e));
+    apart = λ h k. omega (arith, lowest-all test ws k);
+  }
+
+  -- the lowest index of a word that fails
+  pub row-bad : (i : ℕ) → ((lowest test ws < length ws) × (i ≡ lowest test ws)) ↔ LowestBad test ws i
+  row-bad i = (
+    λ h. (
+      omega arith,
+      ap (λ (k : ℕ). test (getD ws k [])) (h .1) ∙ failed-there test ws (h .0),
+      λ j k. passed-before test ws j (omega arith),
+    ),
+    λ h.
+        let low : lowest test ws < suc i = lt-of-not-le (λ g. subst T (h .1) (passed-before test ws i (omega arith))) in
+        let high : i < suc (lowest test ws) =
+        lt-of-not-le (λ g. subst T (failed-there test ws (omega arith)) (h .2 (lowest test ws) (omega arith))) in
+        (omega arith, omega arith),
+  )
+
+  module _ (cs : List Check) (x : ℕ) where
+    pub word-7 : among 7 (numbers cs) ≡ false → (i : ℕ) → (answer (refuseWord test ws ∷ cs) x ≡ refusal 7 i) ↔ LowestBad test ws i
+    word-7 f i = Iff·trans (just bad-word 7 (lowest test ws) cs x f i) (row-bad i)
+
+    pub word-later : {X : Type 0} (n i : ℕ) → ¬ (7 ≡ n) → (answer cs x ≡ refusal n i) ↔ X
+        → (answer (refuseWord test ws ∷ cs) x ≡ refusal n i) ↔ (AllPass × X)
+    word-later n i d e = later bad-word 7 (lowest test ws) cs x n i d e
+
+    pub word-taken : {X : Type 0} (v : ℕ) → (answer cs x ≡ result v) ↔ X
+        → (answer (refuseWord test ws ∷ cs) x ≡ result v) ↔ (AllPass × X)
+    word-taken v e = taken bad-word 7 (lowest test ws) cs x v e
+
+-- ---- the words of a page, as the loops over them ask it, and as they tell it
 
 module _ (s : Shape) (test : List Bool → Bool) (P : List ℕ) where
   abbrev words : List (List Bool)
   words = pageWords P (s .words)
 
-  bad-word : Tells (ltb (lowest test words) (length words)) (lowest test words < s .words) (AllPassOf s test P)
-  bad-word =
-      let l = length-pageWords P (s .words) in
-      record {
-        if-holds = λ e. omega (arith, ltb-true (lowest test words) (length words) e);
-        if-not = λ e. all-passed test P (s .words) (omega (arith, ltb-false (lowest test words) (length words) e, lowest-le test words));
-        apart = λ h k. omega (arith, scan-passed test P (s .words) k);
-      }
+  pub lowest-bad : (i : ℕ) → i ≡ lowest test words → i < s .words → LowestBad test words i
+  lowest-bad i e h = row-bad test words i .0 (omega (arith, length-pageWords P (s .words)), e)
 
-  -- the lowest index of a word that fails
-  pub lowest-bad : (i : ℕ) → ((lowest test words < s .words) × (i ≡ lowest test words)) ↔ LowestBadOf s test P i
-  lowest-bad i =
-      let n = s .words in
-      let l = length-pageWords P n in (
-        λ h. (
-          omega arith,
-          ap test (sym (getD-pageWords P n i (omega arith)) ∙ ap (λ (k : ℕ). getD words k []) (h .1)) ∙ failed-there test words (omega arith),
-          λ j k. subst (λ (w : List Bool). T (test w)) (getD-pageWords P n j (omega arith)) (passed-before test words j (omega arith)),
-        ),
-        λ h. let e : lowest test words ≡ i = scan-failed test P n i (h .0) (h .2) (h .1) in (omega arith, sym e),
-      )
-
-  module _ (cs : List Check) (x : ℕ) where
-    pub word-7 : among 7 (numbers cs) ≡ false → (i : ℕ) → (answer (refuseWord test words ∷ cs) x ≡ refusal 7 i) ↔ LowestBadOf s test P i
-    word-7 f i = Iff·trans (just bad-word 7 (lowest test words) cs x f i) (lowest-bad i)
-
-    pub word-later : {X : Type 0} (n i : ℕ) → ¬ (7 ≡ n) → (answer cs x ≡ refusal n i) ↔ X
-        → (answer (refuseWord test words ∷ cs) x ≡ refusal n i) ↔ (AllPassOf s test P × X)
-    word-later n i d e = later bad-word 7 (lowest test words) cs x n i d e
-
-    pub word-taken : {X : Type 0} (v : ℕ) → (answer cs x ≡ result v) ↔ X
-        → (answer (refuseWord test words ∷ cs) x ≡ result v) ↔ (AllPassOf s test P × X)
-    word-taken v e = taken bad-word 7 (lowest test words) cs x v e
-
-  -- as the loops over the words ask it, and as they tell it
-  pub all-words : AllPassOf s test P → lowest test words ≡ s .words
+  pub all-words : Passed test P (s .words) → lowest test words ≡ s .words
   all-words h = scan-passed test P (s .words) h
 
-  pub no-bad-word : (i : ℕ) → i ≡ lowest test words → s .words ≤ i → AllPassOf s test P
+  pub no-bad-word : (i : ℕ) → i ≡ lowest test words → s .words ≤ i → Passed test P (s .words)
   no-bad-word i e h = all-passed test P (s .words) (omega (arith, lowest-le test words, length-pageWords P (s .words)))
 
 -- ---- all four, of a page in state k without a second record, then other checks
@@ -130,14 +140,43 @@ module _ (k : ℕ) (test : List Bool → Bool) (s : Shape) (P : List ℕ) (cs : 
     one = headed-1 s P k header _ x (f .0);
     five = headed-5 s P k header _ x (f .1);
     six = headed-6 s P k header _ x (f .2);
-    seven = λ i. headed-later s P k header _ x 7 i (omega arith) (word-7 s test P cs x (f .3) i);
+    seven = λ i. headed-later s P k header _ x 7 i (omega arith) (word-7 test (words s test P) cs x (f .3) i);
   }
 
-  -- a later number, and a result
-  pub state-later : {X : Type 0} (n i : ℕ) → ¬ (1 ≡ n) × ¬ (5 ≡ n) × ¬ (6 ≡ n) × ¬ (7 ≡ n) → (answer cs x ≡ refusal n i) ↔ X
-      → (answer (stateChecks k test s P ++ cs) x ≡ refusal n i) ↔ (HeaderOf k s P × (AllPassOf s test P × X))
-  state-later n i d e = headed-later s P k header _ x n i (d .0, d .1, d .2) (word-later s test P cs x n i (d .3) e)
+  -- its length, header and words together
+  open-parts : {X : Type 0} → Bytes P → (HeaderOf k s P × (AllPass test (words s test P) × X)) ↔ (OpenOf k test s P × X)
+  open-parts b =
+      let n = s .words in
+      let l = length-pageWords P n in (
+        λ h. (
+          record {
+            sized = h .0 .0;
+            of-bytes = b;
+            in-state = h .0 .1;
+            byte1-zero = h .0 .2;
+            byte2-zero = h .0 .3;
+            words-pass = λ i j. subst (λ (w : List Bool). T (test w)) (getD-pageWords P n i j) (h .1 .0 i (omega arith));
+          },
+          h .1 .1,
+        ),
+        λ h.
+            let f = h .0 in (
+              (f .sized, f .in-state, f .byte1-zero, f .byte2-zero),
+              (
+                λ i j.
+                    let q : i < n = omega arith in
+                    subst (λ (w : List Bool). T (test w)) (sym (getD-pageWords P n i q)) (f .words-pass i q),
+                h .1,
+              ),
+            ),
+      )
 
-  pub state-taken : {X : Type 0} (v : ℕ) → (answer cs x ≡ result v) ↔ X
-      → (answer (stateChecks k test s P ++ cs) x ≡ result v) ↔ (HeaderOf k s P × (AllPassOf s test P × X))
-  state-taken v e = headed-taken s P k header _ x v (word-taken s test P cs x v e)
+  -- a later number, and a result
+  pub state-later : {X : Type 0} (n i : ℕ) → Bytes P → ¬ (1 ≡ n) × ¬ (5 ≡ n) × ¬ (6 ≡ n) × ¬ (7 ≡ n) → (answer cs x ≡ refusal n i) ↔ X
+      → (answer (stateChecks k test s P ++ cs) x ≡ refusal n i) ↔ (OpenOf k test s P × X)
+  state-later n i b d e =
+      Iff·trans (headed-later s P k header _ x n i (d .0, d .1, d .2) (word-later test (words s test P) cs x n i (d .3) e)) (open-parts b)
+
+  pub state-taken : {X : Type 0} (v : ℕ) → Bytes P → (answer cs x ≡ result v) ↔ X
+      → (answer (stateChecks k test s P ++ cs) x ≡ result v) ↔ (OpenOf k test s P × X)
+  state-taken v b e = Iff·trans (headed-taken s P k header _ x v (word-taken test (words s test P) cs x v e)) (open-parts b)

@@ -1,30 +1,31 @@
 -- What the checks of a page say, in document 01's terms and over a shape of page. demands/specs/Demands.antt says how to read them.
 -- Assumes nothing.
 use mathlib.Core.Bool.{Bool, false}
-use mathlib.Core.List.{List}
+use mathlib.Core.List.{List, []}
 use mathlib.Core.Logic.{_↔_, _⊎_}
 use mathlib.Core.Path.{_≡_}
-use Prim.Native.Nat.{ℕ, _<_}
+use Prim.Native.Nat.{ℕ, _≤_, _<_}
 use lib.Dec.{T}
-use lib.ListN.{length}
+use lib.ListN.{length, getD}
 use Rattle.answer.specs.Answer.{Answer, refusal}
-use Rattle.window.specs.Words.{wordAt}
-use Rattle.rows.specs.Page.{Shape, state, byte1, byte2}
+use Rattle.window.specs.Words.{pageWords}
+use Rattle.rows.specs.Page.{Shape, state, byte1, byte2, recordLength}
+use Rattle.rows.specs.Code.{Code, longest}
 
 abbrev pub SizedOf : Shape → List ℕ → Type 0
 SizedOf s P = length P ≡ s .size
 
--- the length and the first three bytes are those of a page in state k without a second record: 1 is the first round, 3 is filled
+-- the length and the first three bytes are those of a page in state k without a second record
 abbrev pub HeaderOf : ℕ → Shape → List ℕ → Type 0
 HeaderOf k s P = SizedOf s P × (state P ≡ k) × (byte1 P ≡ 0) × (byte2 P ≡ 0)
 
--- every word passes a test
-abbrev pub AllPassOf : Shape → (List Bool → Bool) → List ℕ → Type 0
-AllPassOf s test P = (j : ℕ) → j < s .words → T (test (wordAt P j))
+-- the length and the first three bytes are those of a page with a second record by a code
+abbrev pub RecordHeaderOf : Code → Shape → List ℕ → Type 0
+RecordHeaderOf c s P = SizedOf s P × (state P ≡ c .into) × (recordLength P ≤ longest c s) × (byte2 P ≡ 0)
 
--- word i does not pass a test, and every word before it does
-abbrev pub LowestBadOf : Shape → (List Bool → Bool) → List ℕ → ℕ → Type 0
-LowestBadOf s test P i = (i < s .words) × (test (wordAt P i) ≡ false) × ((j : ℕ) → j < i → T (test (wordAt P j)))
+-- word i of a row does not pass a test, and every word before it does
+abbrev pub LowestBad : (List Bool → Bool) → List (List Bool) → ℕ → Type 0
+LowestBad test ws i = (i < length ws) × (test (getD ws i []) ≡ false) × ((j : ℕ) → j < i → T (test (getD ws j [])))
 
 -- "1 if the page is not 256 bytes", "5 if the state is not 01, 6 if byte 1 or byte 2 is not 0, 7 with the lowest index (0 to 43) of a word that
 -- is not legal": the refusals that the answers of operations on one state share, with that state and what its words must pass. The index is 0
@@ -33,4 +34,4 @@ pub record RefusalsOf (k : ℕ) (test : List Bool → Bool) (s : Shape) (P : Lis
   pub one : (i : ℕ) → (a ≡ refusal 1 i) ↔ (¬ SizedOf s P × (i ≡ 0))
   pub five : (i : ℕ) → (a ≡ refusal 5 i) ↔ (SizedOf s P × ¬ (state P ≡ k) × (i ≡ 0))
   pub six : (i : ℕ) → (a ≡ refusal 6 i) ↔ (SizedOf s P × (state P ≡ k) × (¬ (byte1 P ≡ 0) ⊎ ¬ (byte2 P ≡ 0)) × (i ≡ 0))
-  pub seven : (i : ℕ) → (a ≡ refusal 7 i) ↔ (HeaderOf k s P × LowestBadOf s test P i)
+  pub seven : (i : ℕ) → (a ≡ refusal 7 i) ↔ (HeaderOf k s P × LowestBad test (pageWords P (s .words)) i)

@@ -2,7 +2,7 @@
 -- Assumes nothing.
 use mathlib.Core.Bool.{true}
 use mathlib.Core.List.{List, [], _∷_, _++_}
-use mathlib.Core.Logic.{_↔_, inl, inr, ⊎-elim}
+use mathlib.Core.Logic.{_↔_, _⊎_, inl, inr, ⊎-elim}
 use mathlib.Core.Path.{_≡_, refl, sym, ap, _∙_}
 use Prim.Native.Nat.{ℕ, suc, _≤_}
 use native.Mathlib.Omega.{arith}
@@ -17,12 +17,14 @@ use Rattle.answer.proofs.Chains.{last-passed, same-refusal, among-others}
 use Rattle.window.specs.Words.{pageWords}
 use Rattle.word.specs.Word.{seriesFrom, weight, zeckendorf}
 use Rattle.word.specs.Fill.{setOrEnd, fillFrom, fill, readFrom, read, capacity}
-use Rattle.rows.specs.Page.{state, byte1, blankOf, firstWords, firstPage, sumOver, capacityAll, page256}
+use Rattle.rows.specs.Page.{state, recordLength, blankOf, firstWords, firstPage, sumOver, capacityAll, page256}
+use Rattle.rows.specs.Code.{fillCode}
 use Rattle.page.specs.Answer.{firstChecks, readFirstChecks, readFirstAnswer}
 use Rattle.filled.specs.Answer.{pageCapacityAnswer}
 use Rattle.filled.proofs.FilledAnswers.{as-first}
 use Rattle.second.specs.Answer.{readSecondAnswer}
-use Rattle.second.proofs.SecondAnswers.{read-second, read-second-1, read-second-5}
+use Rattle.inspect.specs.Rows.{inspectCode}
+use Rattle.inspect.specs.Answer.{readInspectAnswer}
 use Rattle.demands.specs.Demands.{blank, Sized, FirstRound, Filled as FilledPage, SecondRound, dataCells, filledCells}
 use Rattle.demands.proofs.Bounds.{capacity-is}
 use Rattle.demands.proofs.Demands.{demand1, demand3}
@@ -32,7 +34,7 @@ use Rattle.report.specs.Kinds.{kindBy, kindOf}
 use Rattle.report.specs.Lines.{lineOf}
 use Rattle.report.specs.Listing.{piecesOf, linesFrom, listingOf}
 use Rattle.report.specs.Claims.{KindsExact, LinesRight, ListingRight}
-use Rattle.report.proofs.Deciding.{kind-not-sized, kind-00, kind-01, kind-03, kind-07, kind-unknown, WhyBad, not-sized, not-blank, unknown, open-bad, second-bad, blank-or-bad, kind-why, second-fits, bad-among}
+use Rattle.report.proofs.Deciding.{kind-not-sized, kind-00, kind-01, kind-03, kind-07, kind-09, kind-unknown, WhyBad, not-sized, not-blank, unknown, open-bad, second-bad, inspect-bad, blank-or-bad, kind-why, reader-fits, bad-among}
 use Rattle.report.proofs.Listings.{pieces-none, pieces-most, listing-page, listing-last, turns-listing}
 use Rattle.report.specs.declared.Kind.{Kind}
 use Rattle.report.specs.declared.Kind.the-variants.{Blank, First, Filled, Second, Bad}
@@ -66,40 +68,55 @@ filled-page P c b = (
   λ h. kind-03 P (h .0 .sized) (h .0 .in-state) ∙ ap (kindBy Filled) (demand1 .page-capacity P c b .1 (inr h)),
 )
 
--- `second` is what read second accepts, since every record fits its output
-second-page : (P : List ℕ) (n : ℕ) → Bytes P → (kindOf P ≡ Second n) ↔ (SecondRound P × (n ≡ byte1 P))
+-- `second` is what the reader of either code accepts, since every record fits its output
+second-page : (P : List ℕ) (n : ℕ) → Bytes P → (kindOf P ≡ Second n) ↔ ((SecondRound fillCode P ⊎ SecondRound inspectCode P) × (n ≡ recordLength P))
 unfolding blankOf
 second-page P n b = (
-  λ e. let r = demand1 .read-second P (blankOf 126) n b .0 (kind-why P (Second n) e) in (r .0, r .1),
-  λ h.
-      kind-07 P (h .0 .sized) (h .0 .in-state)
-      ∙ ap (kindBy Second) (demand1 .read-second P (blankOf 126) n b .1 (h .0, h .1, omega (arith, h .0 .byte1-most))),
+  λ e.
+      ⊎-elim
+      (λ a. let r = demand1 .read-second .accepted P (blankOf 126) n b .0 a in (inl (r .0), r .1))
+      (λ a. let r = demand1 .read-inspect .accepted P (blankOf 247) n b .0 a in (inr (r .0), r .1))
+      (kind-why P (Second n) e),
+  λ h. ⊎-elim (by-fill (h .1)) (by-walks (h .1)) (h .0),
 )
+  where
+    by-fill : n ≡ recordLength P → SecondRound fillCode P → kindOf P ≡ Second n
+    by-fill e f =
+        kind-07 P (f .sized) (f .in-state)
+        ∙ ap (kindBy Second) (demand1 .read-second .accepted P (blankOf 126) n b .1 (f, e, omega (arith, f .length-most)))
+
+    by-walks : n ≡ recordLength P → SecondRound inspectCode P → kindOf P ≡ Second n
+    by-walks e f =
+        kind-09 P (f .sized) (f .in-state)
+        ∙ ap (kindBy Second) (demand1 .read-inspect .accepted P (blankOf 247) n b .1 (f, e, omega (arith, f .length-most)))
 
 -- either reader refuses by 1 only what is not sized
 why-1 : (P : List ℕ) → WhyBad P 1 → ¬ Sized P
 why-1 P (not-sized _ h) = h
 why-1 P (not-blank e _ _ _) = absurd (omega arith)
-why-1 P (unknown e _ _ _ _ _) = absurd (omega arith)
+why-1 P (unknown e _ _ _ _ _ _) = absurd (omega arith)
 why-1 P (open-bad i _ a) = demand1 .page-capacity-1 P i .0 a .0
-why-1 P (second-bad i _ a) = demand1 .read-second-1 P (blankOf 126) i .0 a .0
+why-1 P (second-bad i _ a) = demand1 .read-second .refused-1 P (blankOf 126) i .0 a .0
+why-1 P (inspect-bad i _ a) = demand1 .read-inspect .refused-1 P (blankOf 247) i .0 a .0
 
 -- neither refuses by 4
 why-4 : (P : List ℕ) → WhyBad P 4 → Sized P × (state P ≡ 0) × ¬ (P ≡ blank)
 unfolding among
 why-4 P (not-sized e _) = absurd (omega arith)
 why-4 P (not-blank _ z s h) = (z, s, h)
-why-4 P (unknown e _ _ _ _ _) = absurd (omega arith)
+why-4 P (unknown e _ _ _ _ _ _) = absurd (omega arith)
 why-4 P (open-bad i _ a) = absurd (demand1 .page-capacity-by P .listed 4 i a)
-why-4 P (second-bad i _ a) = absurd (demand1 .read-second-by P (blankOf 126) .listed 4 i a)
+why-4 P (second-bad i _ a) = absurd (demand1 .read-second .refused-by P (blankOf 126) .listed 4 i a)
+why-4 P (inspect-bad i _ a) = absurd (demand1 .read-inspect .refused-by P (blankOf 247) .listed 4 i a)
 
 -- neither refuses by 5 a page in its own state
-why-5 : (P : List ℕ) → WhyBad P 5 → Sized P × ¬ (state P ≡ 0) × ¬ (state P ≡ 1) × ¬ (state P ≡ 3) × ¬ (state P ≡ 7)
+why-5 : (P : List ℕ) → WhyBad P 5 → Sized P × ¬ (state P ≡ 0) × ¬ (state P ≡ 1) × ¬ (state P ≡ 3) × ¬ (state P ≡ 7) × ¬ (state P ≡ 9)
 why-5 P (not-sized e _) = absurd (omega arith)
 why-5 P (not-blank e _ _ _) = absurd (omega arith)
-why-5 P (unknown _ z s0 s1 s3 s7) = (z, s0, s1, s3, s7)
+why-5 P (unknown _ z s0 s1 s3 s7 s9) = (z, s0, s1, s3, s7, s9)
 why-5 P (open-bad i s a) = let h = demand1 .page-capacity-5 P i .0 a in absurd (⊎-elim (h .1) (h .2) s)
-why-5 P (second-bad i s a) = absurd (demand1 .read-second-5 P (blankOf 126) i .0 a .1 s)
+why-5 P (second-bad i s a) = absurd (demand1 .read-second .refused-5 P (blankOf 126) i .0 a .1 s)
+why-5 P (inspect-bad i s a) = absurd (demand1 .read-inspect .refused-5 P (blankOf 247) i .0 a .1 s)
 
 -- state 00 with another byte set
 bad-4 : (P : List ℕ) → Sized P × (state P ≡ 0) × ¬ (P ≡ blank) → kindOf P ≡ Bad 4
@@ -150,7 +167,16 @@ second-refused : (P out : List ℕ) (n : ℕ) → Sized P → state P ≡ 7 → 
 unfolding blankOf
 second-refused P out n z s l =
     let r = refused-bad Second (readSecondAnswer P out) n (λ m e. let z : _≡_ {A = ℕ} 0 1 = cc in omega arith) in
-    let k = kind-07 P z s ∙ ap (kindBy Second) (second-fits P (blankOf 126) (omega arith) ∙ sym (second-fits P out l)) in
+    let k = kind-07 P z s ∙ ap (kindBy Second) (reader-fits fillCode P (blankOf 126) (omega arith) ∙ sym (reader-fits fillCode P out l)) in
+    (λ e. r .0 (sym k ∙ e), λ h. k ∙ r .1 h)
+
+-- and so does read Inspect
+inspect-refused : (P out : List ℕ) (n : ℕ) → Sized P → state P ≡ 9 → 247 ≤ length out
+    → (kindOf P ≡ Bad n) ↔ ((i : ℕ) × (readInspectAnswer P out ≡ refusal n i))
+unfolding blankOf
+inspect-refused P out n z s l =
+    let r = refused-bad Second (readInspectAnswer P out) n (λ m e. let z : _≡_ {A = ℕ} 0 1 = cc in omega arith) in
+    let k = kind-09 P z s ∙ ap (kindBy Second) (reader-fits inspectCode P (blankOf 247) (omega arith) ∙ sym (reader-fits inspectCode P out l)) in
     (λ e. r .0 (sym k ∙ e), λ h. k ∙ r .1 h)
 
 pub kinds-exact : KindsExact
@@ -161,12 +187,13 @@ kinds-exact = record {
   second-page = second-page;
   bad-1 = λ P. (λ e. why-1 P (kind-why P (Bad 1) e), kind-not-sized P);
   bad-4 = λ P. (λ e. why-4 P (kind-why P (Bad 4) e), bad-4 P);
-  bad-5 = λ P. (λ e. why-5 P (kind-why P (Bad 5) e), λ h. kind-unknown P (h .0) (h .1) (h .2) (h .3) (h .4));
+  bad-5 = λ P. (λ e. why-5 P (kind-why P (Bad 5) e), λ h. kind-unknown P (h .0) (h .1) (h .2) (h .3) (h .4) (h .5));
   first-refused = first-refused;
   filled-refused = filled-refused;
   filled-6-or-7 = filled-6-or-7;
   first-refused-as-read = first-refused-as-read;
   second-refused = second-refused;
+  inspect-refused = inspect-refused;
   bad-numbers = λ P n e. bad-among P n (kind-why P (Bad n) e);
 }
 

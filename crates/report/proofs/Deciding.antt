@@ -14,10 +14,14 @@ use Rattle.cells.specs.Bytes.{zeros}
 use Rattle.cells.proofs.Tests.{holds}
 use Rattle.answer.specs.Answer.{Answer, result, refusal, among, answer, numbers}
 use Rattle.answer.proofs.Chains.{accepted, neither, no-other, last-passed, within}
-use Rattle.rows.specs.Page.{state, byte1, isBlank, blankOf, page256}
+use Rattle.rows.specs.Page.{state, recordLength, isBlank, blankOf, page256}
+use Rattle.rows.specs.Code.{Code, fillCode, longest}
 use Rattle.rows.proofs.Blank.{zeros-blank, blank-zeros}
+use Rattle.page.specs.Answer.{recordChecks, readChecks, readAnswer}
 use Rattle.filled.specs.Answer.{pageCapacityAnswer, capacityChecks}
-use Rattle.second.specs.Answer.{readSecondAnswer, secondChecks, readSecondChecks}
+use Rattle.second.specs.Answer.{readSecondAnswer}
+use Rattle.inspect.specs.Rows.{inspectCode}
+use Rattle.inspect.specs.Answer.{readInspectAnswer}
 use Rattle.demands.specs.Demands.{blank, Sized}
 use Rattle.report.specs.Kinds.{kindBy, kindOf, blankKind, openKind}
 use Rattle.report.specs.declared.Kind.{Kind}
@@ -49,10 +53,15 @@ module _ (P : List ℕ) where
     unfolding kindOf
     kind-07 s = rw (eq-eqb (length P) 256 sized) rw s refl
 
-    pub kind-unknown : ¬ (state P ≡ 0) → ¬ (state P ≡ 1) → ¬ (state P ≡ 3) → ¬ (state P ≡ 7) → kindOf P ≡ Bad 5
+    pub kind-09 : state P ≡ 9 → kindOf P ≡ kindBy Second (readInspectAnswer P (blankOf 247))
     unfolding kindOf
-    kind-unknown s0 s1 s3 s7 =
-        rw (eq-eqb (length P) 256 sized) rw (ne-eqb (state P) 0 s0) rw (ne-eqb (state P) 1 s1) rw (ne-eqb (state P) 3 s3) rw (ne-eqb (state P) 7 s7) refl
+    kind-09 s = rw (eq-eqb (length P) 256 sized) rw s refl
+
+    pub kind-unknown : ¬ (state P ≡ 0) → ¬ (state P ≡ 1) → ¬ (state P ≡ 3) → ¬ (state P ≡ 7) → ¬ (state P ≡ 9) → kindOf P ≡ Bad 5
+    unfolding kindOf
+    kind-unknown s0 s1 s3 s7 s9 =
+        rw (eq-eqb (length P) 256 sized) rw (ne-eqb (state P) 0 s0) rw (ne-eqb (state P) 1 s1) rw (ne-eqb (state P) 3 s3) rw (ne-eqb (state P) 7 s7)
+        rw (ne-eqb (state P) 9 s9) refl
 
 -- ---- why a piece has its kind
 
@@ -60,16 +69,17 @@ module _ (P : List ℕ) where
 pub data WhyBad (P : List ℕ) (n : ℕ) : Type 0 where
   not-sized : n ≡ 1 → ¬ Sized P → WhyBad P n
   not-blank : n ≡ 4 → Sized P → state P ≡ 0 → ¬ (P ≡ blank) → WhyBad P n
-  unknown : n ≡ 5 → Sized P → ¬ (state P ≡ 0) → ¬ (state P ≡ 1) → ¬ (state P ≡ 3) → ¬ (state P ≡ 7) → WhyBad P n
+  unknown : n ≡ 5 → Sized P → ¬ (state P ≡ 0) → ¬ (state P ≡ 1) → ¬ (state P ≡ 3) → ¬ (state P ≡ 7) → ¬ (state P ≡ 9) → WhyBad P n
   open-bad : (i : ℕ) → (state P ≡ 1) ⊎ (state P ≡ 3) → pageCapacityAnswer P ≡ refusal n i → WhyBad P n
   second-bad : (i : ℕ) → state P ≡ 7 → readSecondAnswer P (blankOf 126) ≡ refusal n i → WhyBad P n
+  inspect-bad : (i : ℕ) → state P ≡ 9 → readInspectAnswer P (blankOf 247) ≡ refusal n i → WhyBad P n
 
 -- why a piece has a kind
 abbrev pub Why : List ℕ → Kind → Type 0
 Why P Blank = P ≡ blank
 Why P (First c) = (state P ≡ 1) × (pageCapacityAnswer P ≡ result c)
 Why P (Filled c) = (state P ≡ 3) × (pageCapacityAnswer P ≡ result c)
-Why P (Second n) = readSecondAnswer P (blankOf 126) ≡ result n
+Why P (Second n) = (readSecondAnswer P (blankOf 126) ≡ result n) ⊎ (readInspectAnswer P (blankOf 247) ≡ result n)
 Why P (Bad n) = WhyBad P n
 
 -- the blank page passes the test
@@ -100,45 +110,68 @@ module _ (P : List ℕ) where
 
   -- in state 07, by read second's
   by-second : state P ≡ 7 → (a : Answer) → readSecondAnswer P (blankOf 126) ≡ a → Why P (kindBy Second a)
-  by-second s (result n) e = e
+  by-second s (result n) e = inl e
   by-second s (refusal n i) e = second-bad i s e
 
+  -- in state 09, by read Inspect's
+  by-inspect : state P ≡ 9 → (a : Answer) → readInspectAnswer P (blankOf 247) ≡ a → Why P (kindBy Second a)
+  by-inspect s (result n) e = inr e
+  by-inspect s (refusal n i) e = inspect-bad i s e
+
   -- by the length and the state
-  by-cases : Dec (Sized P) → Dec (state P ≡ 0) → Dec (state P ≡ 1) → Dec (state P ≡ 3) → Dec (state P ≡ 7) → Why P (kindOf P)
-  by-cases (no z) d0 d1 d3 d7 = rw (kind-not-sized P z) (not-sized refl z)
-  by-cases (yes z) (yes s) d1 d3 d7 =
+  by-cases : Dec (Sized P) → Dec (state P ≡ 0) → Dec (state P ≡ 1) → Dec (state P ≡ 3) → Dec (state P ≡ 7) → Dec (state P ≡ 9) → Why P (kindOf P)
+  by-cases (no z) d0 d1 d3 d7 d9 = rw (kind-not-sized P z) (not-sized refl z)
+  by-cases (yes z) (yes s) d1 d3 d7 d9 =
       rw (kind-00 P z s) (⊎-elim (λ h. rw (h .1) (h .0)) (λ h. rw (h .1) (not-blank refl z s (h .0))) (blank-or-bad P))
-  by-cases (yes z) (no s0) (yes s) d3 d7 = rw (kind-01 P z s) (by-capacity s (pageCapacityAnswer P) refl)
-  by-cases (yes z) (no s0) (no s1) (yes s) d7 = rw (kind-03 P z s) (by-filled s (pageCapacityAnswer P) refl)
-  by-cases (yes z) (no s0) (no s1) (no s3) (yes s) = rw (kind-07 P z s) (by-second s (readSecondAnswer P (blankOf 126)) refl)
-  by-cases (yes z) (no s0) (no s1) (no s3) (no s7) = rw (kind-unknown P z s0 s1 s3 s7) (unknown refl z s0 s1 s3 s7)
+  by-cases (yes z) (no s0) (yes s) d3 d7 d9 = rw (kind-01 P z s) (by-capacity s (pageCapacityAnswer P) refl)
+  by-cases (yes z) (no s0) (no s1) (yes s) d7 d9 = rw (kind-03 P z s) (by-filled s (pageCapacityAnswer P) refl)
+  by-cases (yes z) (no s0) (no s1) (no s3) (yes s) d9 = rw (kind-07 P z s) (by-second s (readSecondAnswer P (blankOf 126)) refl)
+  by-cases (yes z) (no s0) (no s1) (no s3) (no s7) (yes s) = rw (kind-09 P z s) (by-inspect s (readInspectAnswer P (blankOf 247)) refl)
+  by-cases (yes z) (no s0) (no s1) (no s3) (no s7) (no s9) = rw (kind-unknown P z s0 s1 s3 s7 s9) (unknown refl z s0 s1 s3 s7 s9)
 
   -- a piece that has a kind has it for that kind's reason
   pub kind-why : (k : Kind) → kindOf P ≡ k → Why P k
   kind-why k e =
       subst (Why P) e
-      (by-cases (ℕ-discrete (length P) 256) (ℕ-discrete (state P) 0) (ℕ-discrete (state P) 1) (ℕ-discrete (state P) 3) (ℕ-discrete (state P) 7))
+      (by-cases (ℕ-discrete (length P) 256) (ℕ-discrete (state P) 0) (ℕ-discrete (state P) 1) (ℕ-discrete (state P) 3) (ℕ-discrete (state P) 7)
+      (ℕ-discrete (state P) 9))
 
 -- ---- the numbers of `bad`
 
--- with an output that every record fits, read second has no refusal 3
-pub second-fits : (P out : List ℕ) → 126 ≤ length out → readSecondAnswer P out ≡ answer (secondChecks page256 P) (byte1 P)
-unfolding answer secondChecks readSecondChecks
-second-fits P out h = go (ltb 126 (byte1 P)) refl
+-- with an output that every record fits, a reader has no refusal 3
+pub reader-fits : (c : Code) (P out : List ℕ) → longest c page256 ≤ length out → readAnswer c P out ≡ answer (recordChecks c page256 P) (recordLength P)
+unfolding answer recordChecks readChecks
+reader-fits c P out h = go (ltb (longest c page256) (recordLength P)) refl
   where
-    go : (b : Bool) → ltb 126 (byte1 P) ≡ b → readSecondAnswer P out ≡ answer (secondChecks page256 P) (byte1 P)
+    go : (b : Bool) → ltb (longest c page256) (recordLength P) ≡ b → readAnswer c P out ≡ answer (recordChecks c page256 P) (recordLength P)
     go true e = rw e refl
     go false e =
-        let l = ltb-false 126 (byte1 P) e in
-        last-passed (secondChecks page256 P) (ltb (length out) (byte1 P)) 3 0 (byte1 P) (le-ltb (length out) (byte1 P) (omega arith))
+        let l = ltb-false (longest c page256) (recordLength P) e in
+        last-passed (recordChecks c page256 P) (ltb (length out) (recordLength P)) 3 0 (recordLength P)
+        (le-ltb (length out) (recordLength P) (omega arith))
 
--- a record's length is at most 126
-pub second-short : (P : List ℕ) (n : ℕ) → kindOf P ≡ Second n → n ≤ 126
-unfolding secondChecks blankOf
-second-short P n e =
-    let passed = accepted (secondChecks page256 P) (byte1 P) n .0 (sym (second-fits P (blankOf 126) (omega arith)) ∙ kind-why P (Second n) e) in
-    let short = ltb-false 126 (byte1 P) (neither (ltb 126 (byte1 P)) _ (passed .0 .1 .1 .0) .0) in
+-- and a record that it reads is not too long
+reader-short : (c : Code) (P out : List ℕ) (n : ℕ) → longest c page256 ≤ length out → readAnswer c P out ≡ result n → n ≤ longest c page256
+unfolding recordChecks
+reader-short c P out n h a =
+    let passed = accepted (recordChecks c page256 P) (recordLength P) n .0 (sym (reader-fits c P out h) ∙ a) in
+    let short = ltb-false (longest c page256) (recordLength P) (neither (ltb (longest c page256) (recordLength P)) _ (passed .0 .1 .1 .0) .0) in
     omega (arith, passed .1)
+
+-- its numbers
+reader-among : (c : Code) (P out : List ℕ) (n i : ℕ) → longest c page256 ≤ length out → readAnswer c P out ≡ refusal n i
+    → T (among n (1 ∷ 5 ∷ 6 ∷ 7 ∷ 9 ∷ []))
+unfolding among numbers recordChecks
+reader-among c P out n i h a = no-other (recordChecks c page256 P) (recordLength P) .listed n i (sym (reader-fits c P out h) ∙ a)
+
+-- a record's length is at most 247
+pub second-short : (P : List ℕ) (n : ℕ) → kindOf P ≡ Second n → n ≤ 247
+unfolding blankOf
+second-short P n e =
+    ⊎-elim
+    (λ a. omega (arith, reader-short fillCode P (blankOf 126) n (omega arith) a))
+    (λ a. reader-short inspectCode P (blankOf 247) n (omega arith) a)
+    (kind-why P (Second n) e)
 
 -- document 01's
 abbrev badNumbers : List ℕ
@@ -146,11 +179,12 @@ badNumbers = 1 ∷ 4 ∷ 5 ∷ 6 ∷ 7 ∷ 9 ∷ []
 
 -- a bad piece's number is one of these
 pub bad-among : (P : List ℕ) (n : ℕ) → WhyBad P n → T (among n badNumbers)
-unfolding among numbers capacityChecks secondChecks blankOf
+unfolding among numbers capacityChecks blankOf
 bad-among P n (not-sized e _) = rw e tt
 bad-among P n (not-blank e _ _ _) = rw e tt
-bad-among P n (unknown e _ _ _ _ _) = rw e tt
+bad-among P n (unknown e _ _ _ _ _ _) = rw e tt
 bad-among P n (open-bad i s e) = within n (1 ∷ 5 ∷ 6 ∷ 7 ∷ []) badNumbers (tt, (tt, (tt, (tt, tt)))) (no-other (capacityChecks page256 P) _ .listed n i e)
 bad-among P n (second-bad i s e) =
-    within n (1 ∷ 5 ∷ 6 ∷ 7 ∷ 9 ∷ []) badNumbers (tt, (tt, (tt, (tt, (tt, tt)))))
-    (no-other (secondChecks page256 P) (byte1 P) .listed n i (sym (second-fits P (blankOf 126) (omega arith)) ∙ e))
+    within n (1 ∷ 5 ∷ 6 ∷ 7 ∷ 9 ∷ []) badNumbers (tt, (tt, (tt, (tt, (tt, tt))))) (reader-among fillCode P (blankOf 126) n i (omega arith) e)
+bad-among P n (inspect-bad i s e) =
+    within n (1 ∷ 5 ∷ 6 ∷ 7 ∷ 9 ∷ []) badNumbers (tt, (tt, (tt, (tt, (tt, tt))))) (reader-among inspectCode P (blankOf 247) n i (omega arith) e)

@@ -3,7 +3,7 @@
 -- Assumes nothing.
 use mathlib.Core.Bool.{Bool, true, false}
 use mathlib.Core.List.{List, [], _∷_, _++_}
-use mathlib.Core.Logic.{_↔_}
+use mathlib.Core.Logic.{_↔_, _⊎_}
 use mathlib.Core.Path.{_≡_}
 use Prim.Native.Nat.{ℕ, suc, _*_, _≤_, _<_}
 use lib.Dec.{T}
@@ -11,10 +11,13 @@ use lib.ListN.{length, take, replicate}
 use Rattle.cells.specs.Bytes.{Bytes}
 use Rattle.text.specs.Text.{ascii}
 use Rattle.answer.specs.Answer.{refusal, among}
-use Rattle.rows.specs.Page.{page256, state, byte1, firstPage}
+use Rattle.rows.specs.Page.{page256, state, stateFirst, stateFilled, stateSecond, stateInspect, recordLength, firstPage}
+use Rattle.rows.specs.Code.{fillCode}
 use Rattle.page.specs.Answer.{readFirstAnswer}
 use Rattle.filled.specs.Answer.{pageCapacityAnswer}
 use Rattle.second.specs.Answer.{readSecondAnswer}
+use Rattle.inspect.specs.Rows.{inspectCode}
+use Rattle.inspect.specs.Answer.{readInspectAnswer}
 use Rattle.demands.specs.Demands.{blank, Sized, FirstRound, Filled as FilledPage, SecondRound, dataCells, filledCells}
 use Rattle.report.specs.Kinds.{kindOf}
 use Rattle.report.specs.Lines.{lineOf}
@@ -27,20 +30,25 @@ pub record KindsExact : Type 0 where
   pub first-page : (P : List ℕ) (c : ℕ) → Bytes P → (kindOf P ≡ First c) ↔ (FirstRound P × (c ≡ dataCells P))
   -- "the kind `filled` with its capacity"
   pub filled-page : (P : List ℕ) (c : ℕ) → Bytes P → (kindOf P ≡ Filled c) ↔ (FilledPage P × (c ≡ filledCells P))
-  pub second-page : (P : List ℕ) (n : ℕ) → Bytes P → (kindOf P ≡ Second n) ↔ (SecondRound P × (n ≡ byte1 P))
+  -- by either code: "The listing and the gain sheet count state 09 as second"
+  pub second-page : (P : List ℕ) (n : ℕ) → Bytes P
+      → (kindOf P ≡ Second n) ↔ ((SecondRound fillCode P ⊎ SecondRound inspectCode P) × (n ≡ recordLength P))
   -- "4 for state 00 with another byte set, 5 for an unknown state, 6, 7 or 9 as the readers give them, 1 for a last piece shorter than 256"
   pub bad-1 : (P : List ℕ) → (kindOf P ≡ Bad 1) ↔ ¬ Sized P
   pub bad-4 : (P : List ℕ) → (kindOf P ≡ Bad 4) ↔ (Sized P × (state P ≡ 0) × ¬ (P ≡ blank))
-  pub bad-5 : (P : List ℕ) → (kindOf P ≡ Bad 5) ↔ (Sized P × ¬ (state P ≡ 0) × ¬ (state P ≡ 1) × ¬ (state P ≡ 3) × ¬ (state P ≡ 7))
-  pub first-refused : (P : List ℕ) (n : ℕ) → Sized P → state P ≡ 1 → (kindOf P ≡ Bad n) ↔ ((i : ℕ) × (pageCapacityAnswer P ≡ refusal n i))
+  pub bad-5 : (P : List ℕ) → (kindOf P ≡ Bad 5)
+      ↔ (Sized P × ¬ (state P ≡ 0) × ¬ (state P ≡ stateFirst) × ¬ (state P ≡ stateFilled) × ¬ (state P ≡ stateSecond) × ¬ (state P ≡ stateInspect))
+  pub first-refused : (P : List ℕ) (n : ℕ) → Sized P → state P ≡ stateFirst → (kindOf P ≡ Bad n) ↔ ((i : ℕ) × (pageCapacityAnswer P ≡ refusal n i))
   -- "and `bad` there has page capacity's 6 or 7"
-  pub filled-refused : (P : List ℕ) (n : ℕ) → Sized P → state P ≡ 3 → (kindOf P ≡ Bad n) ↔ ((i : ℕ) × (pageCapacityAnswer P ≡ refusal n i))
-  pub filled-6-or-7 : (P : List ℕ) (n : ℕ) → Sized P → state P ≡ 3 → kindOf P ≡ Bad n → T (among n (6 ∷ 7 ∷ []))
-  -- whatever output read first is given, if the record fits it, and read second, if every record does
-  pub first-refused-as-read : (P out : List ℕ) (n : ℕ) → Sized P → state P ≡ 1 → 176 ≤ length out
+  pub filled-refused : (P : List ℕ) (n : ℕ) → Sized P → state P ≡ stateFilled → (kindOf P ≡ Bad n) ↔ ((i : ℕ) × (pageCapacityAnswer P ≡ refusal n i))
+  pub filled-6-or-7 : (P : List ℕ) (n : ℕ) → Sized P → state P ≡ stateFilled → kindOf P ≡ Bad n → T (among n (6 ∷ 7 ∷ []))
+  -- whatever output read first is given, if the record fits it, and read second and read Inspect, if every record does
+  pub first-refused-as-read : (P out : List ℕ) (n : ℕ) → Sized P → state P ≡ stateFirst → 176 ≤ length out
       → (kindOf P ≡ Bad n) ↔ ((i : ℕ) × (readFirstAnswer P out ≡ refusal n i))
-  pub second-refused : (P out : List ℕ) (n : ℕ) → Sized P → state P ≡ 7 → 126 ≤ length out
+  pub second-refused : (P out : List ℕ) (n : ℕ) → Sized P → state P ≡ stateSecond → 126 ≤ length out
       → (kindOf P ≡ Bad n) ↔ ((i : ℕ) × (readSecondAnswer P out ≡ refusal n i))
+  pub inspect-refused : (P out : List ℕ) (n : ℕ) → Sized P → state P ≡ stateInspect → 247 ≤ length out
+      → (kindOf P ≡ Bad n) ↔ ((i : ℕ) × (readInspectAnswer P out ≡ refusal n i))
   pub bad-numbers : (P : List ℕ) (n : ℕ) → kindOf P ≡ Bad n → T (among n (1 ∷ 4 ∷ 5 ∷ 6 ∷ 7 ∷ 9 ∷ []))
 
 pub record LinesRight : Type 0 where

@@ -1,11 +1,13 @@
 // The kind of a piece of input, by its state and by what the page's readers answer.
 use crate::Kind;
 use filled::Measured;
+use inspect::InspectRead;
 use second::SecondRead;
 ghost use mathlib.Core.Path.{_≡_};
 ghost use Rattle.rows.specs.Page.{blankOf};
 ghost use Rattle.filled.specs.Answer.{measuredCode};
 ghost use Rattle.second.specs.Answer.{secondReadCode, readSecondAnswer};
+ghost use Rattle.inspect.specs.Answer.{inspectReadCode, readInspectAnswer};
 ghost use Rattle.report.specs.Kinds.{kindBy, kindOf, blankKind, openKind};
 ghost use Rattle.report.specs.declared.Kind.the-variants.{Second};
 
@@ -55,6 +57,29 @@ fn second_kind(piece: &[u8]) -> Kind
     kind_read(second::read_second(piece, &mut second))
 }
 
+// The kind that read Inspect's answer makes.
+fn kind_inspected(s: InspectRead) -> Kind
+    ensures { λ r. ⌜ r ≡ kindBy Second (inspectReadCode s) ⌝ }
+{
+    match s {
+        InspectRead::Length(n) => Kind::Second(n),
+        InspectRead::PageLength => Kind::Bad(1),
+        InspectRead::State => Kind::Bad(5),
+        InspectRead::Header => Kind::Bad(6),
+        InspectRead::Word(_) => Kind::Bad(7),
+        InspectRead::EndsBefore => Kind::Bad(9),
+        InspectRead::OutputLength => Kind::Bad(3),
+    }
+}
+
+// The kind of a page in state 09, likewise.
+fn inspect_kind(piece: &[u8]) -> Kind
+    ensures { λ r. ⌜ r ≡ kindBy Second (readInspectAnswer (now (piece .entry)) (blankOf 247)) ⌝ }
+{
+    let mut second: [u8; 247] = [0; 247];
+    kind_inspected(inspect::read_inspect(piece, &mut second))
+}
+
 // The kind of a page in state 00.
 fn blank_kind(piece: &[u8]) -> Kind
     ensures { λ r. ⌜ r ≡ blankKind (now (piece .entry)) ⌝ }
@@ -77,6 +102,7 @@ pub fn kind_of(piece: &[u8]) -> Kind
         0 => blank_kind(piece),
         1 | 3 => kind_measured(state, filled::capacity(piece)),
         7 => second_kind(piece),
+        9 => inspect_kind(piece),
         _ => Kind::Bad(5),
     }
 }

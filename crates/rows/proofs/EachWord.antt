@@ -27,11 +27,11 @@ module _ (test : List Bool → Bool) where
   each-replicate zero w h = tt
   each-replicate (suc n) w h = (h, each-replicate n w h)
 
-  each-from : (ws : List (List Bool)) → ((i : ℕ) → i < length ws → T (test (getD ws i []))) → Each test ws
+  pub each-from : (ws : List (List Bool)) → ((i : ℕ) → i < length ws → T (test (getD ws i []))) → Each test ws
   each-from [] h = tt
   each-from (w ∷ ws) h = (h 0 (omega arith), each-from ws (λ i k. h (suc i) (omega arith)))
 
-  each-at : (ws : List (List Bool)) → Each test ws → (i : ℕ) → i < length ws → T (test (getD ws i []))
+  pub each-at : (ws : List (List Bool)) → Each test ws → (i : ℕ) → i < length ws → T (test (getD ws i []))
   each-at [] h i k = absurd (omega arith)
   each-at (w ∷ ws) h zero k = h .0
   each-at (w ∷ ws) h (suc i) k = each-at ws (h .1) i (omega arith)

@@ -1,38 +1,36 @@
 -- The page (document 01, the section of that name). A page is its list of bytes. The definitions are over a shape of page, or over what of
 -- it they need; document 01's page is the shape `page256`.
 -- Assumes nothing.
-use mathlib.Core.Bool.{Bool, cond, _&&_, false}
+use mathlib.Core.Bool.{Bool, cond, _&&_}
 use mathlib.Core.List.{List, [], _∷_, _++_}
 use mathlib.Core.Path.{_≡_}
-use Prim.Native.Nat.{ℕ, zero, suc, _+_, _*_, _/_, _≤_, _<_}
+use Prim.Native.Nat.{ℕ, zero, suc, _+_, _*_, _<_}
 use lib.Dec.{T, eqb}
 use lib.ListN.{length, take, drop, getD, replicate}
-use Rattle.cells.specs.Cells.{number, someSet}
-use Rattle.cells.specs.Bytes.{bits, bytes, highFirst, Bytes, zeros}
+use Rattle.cells.specs.Cells.{number}
+use Rattle.cells.specs.Bytes.{bits, highFirst, Bytes, zeros}
 use Rattle.window.specs.Words.{wordAt, pageWords, putWords}
 use Rattle.word.specs.Word.{sum, legal, zeckendorf}
-use Rattle.word.specs.Fill.{fill, fillPulses, read, capacity, put, wellFormed, isFilled}
+use Rattle.word.specs.Fill.{fill, fillPulses, read, capacity, put, isFilled}
 
 -- ---- the shape
 
--- a shape of page: its size in bytes, the number of its words, the bytes of its first record and of the longest second one
+-- a shape of page: its size in bytes, the number of its words, and the bytes of its first record
 pub record Shape : Type 0 where
   pub size : ℕ
   pub words : ℕ
   pub firstBytes : ℕ
-  pub secondBytes : ℕ
 
--- the shape of a page of so many bytes and words: a word takes four bytes of a first record, and has at most 23 data cells
+-- the shape of a page of so many bytes and words: a word takes four bytes of a first record
 abbrev pub shape : ℕ → ℕ → Shape
-shape size n = record { size = size; words = n; firstBytes = 4 * n; secondBytes = 23 * n / 8 }
+shape size n = record { size = size; words = n; firstBytes = 4 * n }
 
 -- document 01's page
 abbrev pub page256 : Shape
-page256 = record { size = 256; words = 44; firstBytes = 176; secondBytes = 126 }
+page256 = record { size = 256; words = 44; firstBytes = 176 }
 
 -- ---- bytes and words
 
--- byte 0 is the state: 00 blank, 01 first round, 03 filled, 07 second round
 abbrev pub state : List ℕ → ℕ
 state page = getD page 0 0
 
@@ -41,6 +39,28 @@ byte1 page = getD page 1 0
 
 abbrev pub byte2 : List ℕ → ℕ
 byte2 page = getD page 2 0
+
+-- "Byte 0 is the state: 00 blank, 01 first round, 07 second round"; Change 2 adds 03, filled, and Change 7 adds 09, second round by the
+-- Inspect code
+abbrev pub stateFirst : ℕ
+stateFirst = 1
+
+abbrev pub stateFilled : ℕ
+stateFilled = 3
+
+abbrev pub stateSecond : ℕ
+stateSecond = 7
+
+abbrev pub stateInspect : ℕ
+stateInspect = 9
+
+-- "Byte 1 is the second record's length in bytes"
+abbrev pub recordLength : List ℕ → ℕ
+recordLength page = byte1 page
+
+-- a page with its state and its record's length put, every other byte kept
+abbrev pub withHeader : ℕ → ℕ → List ℕ → List ℕ
+withHeader k n page = k ∷ n ∷ drop 2 page
 
 -- a blank page: so many bytes, and all of them 0
 unfoldable pub isBlank : ℕ → List ℕ → Bool
@@ -65,7 +85,7 @@ firstRecord (w ∷ ws) = highFirst 4 (sum w) ++ firstRecord ws
 
 -- a blank page after a first record was written: state 01 and the record's words
 unfoldable pub firstPage : Shape → List ℕ → List ℕ → List ℕ
-firstPage s page bs = putWords (1 ∷ drop 1 page) (firstWords (s .words) bs)
+firstPage s page bs = putWords (stateFirst ∷ drop 1 page) (firstWords (s .words) bs)
 
 -- ---- the second record
 
@@ -96,26 +116,13 @@ unfoldable pub putAll : List (List Bool) → List Bool → List (List Bool)
 putAll [] l = []
 putAll (w ∷ ws) l = put w l ∷ putAll ws (drop (length (read w)) l)
 
--- the term "outcome": rewriting fills all words, puts the record's bits (highest bit of each byte first) in the data cells, leaves the
--- spare data cells 0, and writes byte 1 and state 07
-unfoldable pub outcomeOf : Shape → List ℕ → List ℕ → List ℕ
-outcomeOf s page bs = putWords (7 ∷ length bs ∷ drop 2 page) (putAll (fillAll (pageWords page (s .words))) (bits bs))
-
 -- a first-round page after the fill: state 03, and all words filled
 unfoldable pub filledPage : Shape → List ℕ → List ℕ
-filledPage s page = putWords (3 ∷ drop 1 page) (fillAll (pageWords page (s .words)))
-
--- a filled page after a record was written over it: state 07, byte 1, the record's bits in the data cells, and 0 in the spare ones
-unfoldable pub secondPage : Shape → List ℕ → List ℕ → List ℕ
-secondPage s page bs = putWords (7 ∷ length bs ∷ drop 2 page) (putAll (pageWords page (s .words)) (bits bs))
+filledPage s page = putWords (stateFilled ∷ drop 1 page) (fillAll (pageWords page (s .words)))
 
 -- what the data cells of a filled page or of a second-round page hold: those that reading back finds
 abbrev pub secondBitsOf : Shape → List ℕ → List Bool
 secondBitsOf s page = readAll (pageWords page (s .words))
-
--- the record that a second-round page holds: as many bytes as byte 1 says, from the data cells
-unfoldable pub secondRecord : Shape → List ℕ → List ℕ
-secondRecord s page = bytes (byte1 page) (secondBitsOf s page)
 
 -- ---- terms of document 01
 
@@ -123,38 +130,20 @@ secondRecord s page = bytes (byte1 page) (secondBitsOf s page)
 unfoldable pub blankOf : ℕ → List ℕ
 blankOf size = replicate size 0
 
--- the term "first-round page": a page in state 01 whose bytes 1 and 2 are 0 and whose words are all legal
-pub record FirstRoundOf (s : Shape) (page : List ℕ) : Type 0 where
+-- a page in state k that holds no second record, its bytes 1 and 2 at 0, and whose words all pass a test
+pub record OpenOf (k : ℕ) (test : List Bool → Bool) (s : Shape) (page : List ℕ) : Type 0 where
   pub sized : length page ≡ s .size
   pub of-bytes : Bytes page
-  pub in-state : state page ≡ 1
+  pub in-state : state page ≡ k
   pub byte1-zero : byte1 page ≡ 0
   pub byte2-zero : byte2 page ≡ 0
-  pub words-legal : (i : ℕ) → i < s .words → T (legal (wordAt page i))
+  pub words-pass : (i : ℕ) → i < s .words → T (test (wordAt page i))
+
+-- the term "first-round page": a page in state 01 whose bytes 1 and 2 are 0 and whose words are all legal
+abbrev pub FirstRoundOf : Shape → List ℕ → Type 0
+FirstRoundOf s page = OpenOf stateFirst legal s page
 
 -- the term "filled page" (document 02, Change 2): a page in state 03 whose bytes 1 and 2 are 0 and whose words are all well formed with no
 -- data cell set
-pub record FilledOf (s : Shape) (page : List ℕ) : Type 0 where
-  pub sized : length page ≡ s .size
-  pub of-bytes : Bytes page
-  pub in-state : state page ≡ 3
-  pub byte1-zero : byte1 page ≡ 0
-  pub byte2-zero : byte2 page ≡ 0
-  pub words-filled : (i : ℕ) → i < s .words → T (isFilled (wordAt page i))
-
--- a page that read second accepts, given output enough (document 01 has no term for it): state 07, byte 1 at most the
--- longest record's, byte 2 at 0, all words well formed, data cells enough for the record, the spare ones 0
-pub record SecondRoundOf (s : Shape) (page : List ℕ) : Type 0 where
-  pub sized : length page ≡ s .size
-  pub of-bytes : Bytes page
-  pub in-state : state page ≡ 7
-  pub byte1-most : byte1 page ≤ s .secondBytes
-  pub byte2-zero : byte2 page ≡ 0
-  pub words-formed : (i : ℕ) → i < s .words → T (wellFormed (wordAt page i))
-  pub cells-enough : 8 * byte1 page ≤ length (secondBitsOf s page)
-  pub spare-zero : someSet (drop (8 * byte1 page) (secondBitsOf s page)) ≡ false
-
--- the term "fits": 8 times the record's length in bytes is at most the page's capacity
-pub record FitsOf (s : Shape) (bs page : List ℕ) : Type 0 where
-  pub of-bytes : Bytes bs
-  pub room : 8 * length bs ≤ capacityAll (pageWords page (s .words))
+abbrev pub FilledOf : Shape → List ℕ → Type 0
+FilledOf s page = OpenOf stateFilled isFilled s page

@@ -1,3 +1,2 @@
 -- What the operations on a second record answer and leave.
-pub mod Terms
 pub mod Answer

@@ -90,8 +90,8 @@ gain-from t (p ∷ ps) =
     ∙ ap (λ (g : ℤ). g +ℤ gainOf (kindOf p) +ℤ gains ps) (kept t (kindOf p) .1)
     ∙ +ℤ-assoc (t .gain) (gainOf (kindOf p)) (gains ps)
 
--- a page's gain is at most 640 and 8 times 126 from 0
-far-kind : (k : Kind) → ((n : ℕ) → k ≡ Second n → n ≤ 126) → natAbs (gainOf k) ≤ 1648
+-- a page's gain is at most 640 and 8 times 247 from 0
+far-kind : (k : Kind) → ((n : ℕ) → k ≡ Second n → n ≤ 247) → natAbs (gainOf k) ≤ 2616
 far-kind Blank h = omega arith
 far-kind (First c) h = omega arith
 far-kind (Filled c) h = omega arith
@@ -99,7 +99,7 @@ far-kind (Second n) h = let l = h n refl in omega (arith, far-sum firstGain (pos
 far-kind (Bad c) h = omega arith
 
 -- and the sum no further than all of them
-far-gains : (ps : List (List ℕ)) → natAbs (gains ps) ≤ length ps * 1648
+far-gains : (ps : List (List ℕ)) → natAbs (gains ps) ≤ length ps * 2616
 unfolding gains
 far-gains [] = omega arith
 far-gains (p ∷ ps) =
@@ -114,7 +114,7 @@ module _ {t : Tally} (h : Tallies 4095 t) where
   pub counts-fit : total t ≤ 4095
   counts-fit = omega (arith, ap total (h .all), total-counted (h .pieces), h .few)
 
-  far-gain : natAbs (t .gain) ≤ 4095 * 1648
+  far-gain : natAbs (t .gain) ≤ 4095 * 2616
   far-gain =
       let g : t .gain ≡ gains (h .pieces) = ap (λ (s : Tally). s .gain) (h .all) ∙ gain-from noPages (h .pieces) ∙ +ℤ-idl (gains (h .pieces)) in
       omega (arith, ap natAbs g, far-gains (h .pieces), h .few)

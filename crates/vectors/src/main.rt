@@ -4,7 +4,7 @@
 // A call is a header of 13 bytes, then the page or pages and the other buffer as they are before the call:
 //
 //     byte 0         the entry: 0 encode word, 1 decode word, 2 fill word, 3 word capacity, 4 write first, 5 read first,
-//                    6 page capacity, 7 write second, 8 read second, 9 write file, 10 fill page
+//                    6 page capacity, 7 write second, 8 read second, 9 write file, 10 fill page, 11 write Inspect, 12 read Inspect
 //     bytes 1 to 8   the argument of a word entry, or write file's device number
 //     bytes 9, 10    the length of the page or pages, at most 1,024
 //     bytes 11, 12   the length of the other buffer (data, output or record), at most 1,024
@@ -43,7 +43,9 @@ fn answer_page(entry: u8, argument: u64, page: &mut [u8], other: &mut [u8]) -> u
         7 => wom::wom_write_second(page, other),
         8 => wom::wom_read_second(page, other),
         9 => wom::wom_write_file(low_half(argument), page, other),
-        _ => wom::wom_fill_page(page),
+        10 => wom::wom_fill_page(page),
+        11 => wom::wom_write_inspect(page, other),
+        _ => wom::wom_read_inspect(page, other),
     }
 }
 
@@ -80,8 +82,8 @@ fn replay_page(index: u32, entry: u8, argument: u64, page: &mut [u8], other: &mu
     }
     tell_answer(index, entry, answer_page(entry, argument, page, other));
     match entry {
-        4 | 7 | 10 => tell_bytes(page),
-        5 | 8 | 9 => tell_bytes(other),
+        4 | 7 | 10 | 11 => tell_bytes(page),
+        5 | 8 | 9 | 12 => tell_bytes(other),
         _ => {}
     }
     true
@@ -95,7 +97,7 @@ fn replay(index: u32, header: &[u8; 13]) -> bool {
         tell_answer(index, entry, answer_word(entry, argument));
         return true;
     }
-    if 10 < entry {
+    if 12 < entry {
         return false;
     }
     let lengths = cells::four_bytes(header, 9);

@@ -6,7 +6,7 @@ ghost use mathlib.Core.Path.{_≡_};
 ghost use Prim.Native.Nat.{_+_, _*_, _/_, _%_, _^_, _≤_, _<_};
 ghost use lib.ListN.{length, take, drop};
 ghost use Rattle.cells.specs.Cells.{number, cells};
-ghost use Rattle.cells.specs.Bytes.{bits};
+ghost use Rattle.cells.specs.Bytes.{bits, atStart};
 ghost use Rattle.window.specs.Words.{start, wordAt, putCells, putWord};
 
 // The number that eight bytes write, by halves.
@@ -43,6 +43,14 @@ pub fn load_word(page: &[u8], i: usize) -> u64
     (v << (18 - cells_after(i))) >> 18
 }
 
+// The count cells from place `at` on, as a number.
+pub fn load_cells(page: &[u8], at: usize, count: usize) -> u64
+    requires { ⌜ (at / 8 + 8 ≤ length (now page)) × (1 ≤ count) × (count ≤ 56) ⌝ }
+    ensures { λ r. ⌜ r ≡ number (take count (drop at (bits (now (page .entry))))) ⌝ }
+{
+    (window(page, at / 8) << (at % 8)) >> (64 - count)
+}
+
 // A number with the count bits above its s lowest replaced by those of v.
 fn replaced(old: u64, s: usize, count: usize, v: u64) -> u64
     requires { ⌜ (s ≤ 63) × (count ≤ 63) × (count + s ≤ 64) × (v < 2 ^ count) ⌝ }
@@ -71,4 +79,14 @@ pub fn put_cells(page: &mut [u8], at: usize, count: usize, v: u64)
     let k = at / 8;
     let old = window(page, k);
     put_bytes(page, k, 8, replaced(old, 64 - at % 8 - count, count, v));
+}
+
+// Copies a page's 256 bytes, eight at a time. (A copy byte by byte would be compiled to a call of the C library.)
+pub fn copy_page(to: &mut [u8], from: &[u8])
+    requires { ⌜ (256 ≤ length (now to)) × (256 ≤ length (now from)) ⌝ }
+    ensures { λ _. ⌜ now (to .exit) ≡ atStart (take 256 (now (from .entry))) (now (to .entry)) ⌝ }
+{
+    for j in 0..32 {
+        put_bytes(to, 8 * j, 8, window(from, 8 * j));
+    }
 }

@@ -2,6 +2,7 @@
 -- Assumes nothing.
 use mathlib.Core.Bool.{Bool, true, false, cond}
 use mathlib.Core.List.{List, [], _∷_, _++_}
+use mathlib.Core.Path.{_≡_, _∙_}
 use Prim.Native.Nat.{ℕ, zero, suc, _*_, _/_, _^_, _≤_, _<_}
 use native.Mathlib.Nat.{min-le-left}
 use native.Mathlib.Omega.{arith}
@@ -16,18 +17,22 @@ use Rattle.answer.proofs.Apart.{taken-apart, parts-apart}
 use Rattle.answer.proofs.Tells.{less, unequal, either}
 use Rattle.window.specs.Words.{pieces, pageWords}
 use Rattle.window.proofs.Words.{length-pageWords}
-use Rattle.word.specs.Fill.{wellFormed, isFilled, fill, fillPulses, read, capacity}
+use Rattle.word.specs.Fill.{fill, fillPulses, read, capacity}
 use Rattle.word.specs.Word.{legal}
 use Rattle.word.specs.Answer.{legalChecks, ifLegal, fillAnswer}
 use Rattle.word.proofs.Sums.{sum-fits, word-lt}
 use Rattle.word.proofs.Filling.{capacity-le, length-fill}
 use Rattle.word.proofs.FreeCells.{fill-lt}
 use Rattle.word.proofs.Pulses.{fillPulses-le}
-use Rattle.rows.specs.Page.{page256, state, byte1, byte2, lowest, sumOver, pulsesAll, capacityAll, readAll}
+use Rattle.rows.specs.Page.{page256, state, stateFirst, recordLength, byte2, lowest, sumOver, pulsesAll, capacityAll, readAll}
+use Rattle.rows.specs.Code.{Code, fillCode, longest, roomFor, judgedOf}
 use Rattle.rows.proofs.Lowest.{lowest-le}
-use Rattle.page.specs.Answer.{writeFirstChecks, stateChecks, firstChecks, readFirstChecks}
-use Rattle.filled.specs.Answer.{filledChecks, capacityChecks, roomFilled, roomOf}
-use Rattle.second.specs.Answer.{writeSecondChecks, secondChecks, readSecondChecks}
+use Rattle.page.specs.Answer.{writeFirstChecks, stateChecks, firstChecks, readFirstChecks, writeChecks, recordChecks, readChecks}
+use Rattle.filled.specs.Answer.{capacityChecks, roomFilled, roomOf}
+use Rattle.walk.specs.Walk.{taken}
+use Rattle.walk.proofs.Walking.{taken-most}
+use Rattle.inspect.specs.Rows.{takenAll, inspectCode}
+use Rattle.inspect.proofs.Rows.{length-unwalkedAll}
 use Rattle.transfer.specs.File.{fileOf}
 use Rattle.transfer.specs.Answer.{writeFileChecks}
 use Rattle.transfer.proofs.Places.{length-file}
@@ -106,16 +111,17 @@ room-small P = go (eqb (state P) 3)
 state-small : (k : ℕ) (test : List Bool → Bool) (P : List ℕ) (cs : List Check) → Small cs → Small (stateChecks k test page256 P ++ cs)
 state-small k test P cs h = (omega arith, (omega arith, (omega arith, (word-small test P, h))))
 
-second-small : (P : List ℕ) (cs : List Check) → Small cs → Small (secondChecks page256 P ++ cs)
-unfolding secondChecks
-second-small P cs h = (omega arith, (omega arith, (omega arith, (word-small wellFormed P, (omega arith, h)))))
+takenAll-pieces : (n : ℕ) (l bs : List Bool) → takenAll (pieces n l) bs ≤ 46 * n
+unfolding takenAll pieces
+takenAll-pieces zero l bs = omega arith
+takenAll-pieces (suc n) l bs =
+    let w = take 46 l in
+    omega (arith, taken-most w bs, length-take 46 l, min-le-left 46 (length l), takenAll-pieces n (drop 46 l) (drop (taken w bs) bs))
 
--- read second's result: byte 1 is at most 126 where no check refuses
-length-small : (P : List ℕ) (cs : List Check) → None (secondChecks page256 P ++ cs) → byte1 P < 2 ^ 56
-unfolding secondChecks
-length-small P cs h =
-    let k = either (less 126 (byte1 P)) (unequal (byte2 P) 0) .if-not (h .1 .1 .0) in
-    omega (arith, k .0)
+-- the bits that the walks take
+taken-small : (P R : List ℕ) → roomFor inspectCode page256 P R < 2 ^ 56
+unfolding pageWords
+taken-small P R = omega (arith, takenAll-pieces 44 (drop 24 (bits P)) (bits R))
 
 -- a file's length: there are at most 64 pages where no check refuses
 file-small : (d : ℕ) (P out : List ℕ) → None (writeFileChecks d P out) → length (fileOf d P) < 2 ^ 56
@@ -129,22 +135,38 @@ file-small d P out h =
 state-one : (k : ℕ) (test : List Bool → Bool) (P : List ℕ) (b : Bool) (n i : ℕ) → i < 2 ^ 56 → Small (stateChecks k test page256 P ++ (refuse b n i ∷ []))
 state-one k test P b n i h = state-small k test P (refuse b n i ∷ []) (h, tt)
 
-second-one : (P : List ℕ) (b : Bool) (n i : ℕ) → i < 2 ^ 56 → Small (secondChecks page256 P ++ (refuse b n i ∷ []))
-second-one P b n i h = second-small P (refuse b n i ∷ []) (h, tt)
+-- the checks of a code's writer and of its reader, and the reader's result: the length is at most the longest record's where no check refuses
+writer-small : (c : Code) (P R : List ℕ) → roomFor c page256 P R < 2 ^ 56 → Small (writeChecks c page256 P R)
+unfolding writeChecks
+writer-small c P R h = state-one (c .over) (c .takes) P (ltb (roomFor c page256 P R) (8 * length R)) 8 (roomFor c page256 P R) h
+
+reader-small : (c : Code) (P out : List ℕ) → length (judgedOf c page256 P) ≡ 44 → Small (readChecks c page256 P out)
+unfolding readChecks recordChecks
+reader-small c P out e =
+    (omega arith, (omega arith, (omega arith, (omega (arith, lowest-le (c .passes) (judgedOf c page256 P)), (omega arith, (omega arith, tt))))))
+
+length-small : (c : Code) (P out : List ℕ) → longest c page256 < 2 ^ 56 → None (readChecks c page256 P out) → recordLength P < 2 ^ 56
+unfolding readChecks recordChecks
+length-small c P out m h =
+    let k = either (less (longest c page256) (recordLength P)) (unequal (byte2 P) 0) .if-not (h .1 .1 .0) in
+    omega (arith, k .0)
 
 pub page-answers-faithful : PageAnswersFaithful
-unfolding writeFirstChecks firstChecks readFirstChecks capacityChecks filledChecks writeSecondChecks secondChecks readSecondChecks writeFileChecks
+unfolding writeFirstChecks firstChecks readFirstChecks capacityChecks writeFileChecks
 page-answers-faithful = record {
   write-first = λ P D. taken-apart (writeFirstChecks page256 P D) 0 (omega arith, (omega arith, (omega arith, tt))) (λ n. omega arith);
-  read-first = λ P out. taken-apart (readFirstChecks page256 P out) 0 (state-one 1 legal P (ltb (length out) 176) 3 0 (omega arith)) (λ n. omega arith);
+  read-first = λ P out. taken-apart (readFirstChecks page256 P out) 0 (state-one stateFirst legal P (ltb (length out) 176) 3 0 (omega arith)) (λ n. omega arith);
   page-capacity = λ P.
       taken-apart (capacityChecks page256 P) (roomOf page256 P) (omega arith, (omega arith, (omega arith, (word-small _ P, tt)))) (λ n. room-small P);
-  fill-page = λ P. taken-apart (firstChecks page256 P) _ (state-small 1 legal P [] tt) (λ n. fill-small P);
-  write-second = λ P R.
-      let room = roomFilled page256 P in
-      taken-apart (writeSecondChecks page256 P R) 0 (state-one 3 isFilled P (ltb room (8 * length R)) 8 room (filled-small P)) (λ n. omega arith);
+  fill-page = λ P. taken-apart (firstChecks page256 P) _ (state-small stateFirst legal P [] tt) (λ n. fill-small P);
+  write-second = λ P R. taken-apart (writeChecks fillCode page256 P R) 0 (writer-small fillCode P R (filled-small P)) (λ n. omega arith);
   read-second = λ P out.
-      taken-apart (readSecondChecks page256 P out) (byte1 P) (second-one P (ltb (length out) (byte1 P)) 3 0 (omega arith))
-      (length-small P (refuse (ltb (length out) (byte1 P)) 3 0 ∷ []));
+      taken-apart (readChecks fillCode page256 P out) (recordLength P) (reader-small fillCode P out (length-pageWords P 44))
+      (length-small fillCode P out (omega arith));
+  write-inspect = λ P R. taken-apart (writeChecks inspectCode page256 P R) 0 (writer-small inspectCode P R (taken-small P R)) (λ n. omega arith);
+  read-inspect = λ P out.
+      taken-apart (readChecks inspectCode page256 P out) (recordLength P)
+      (reader-small inspectCode P out (length-unwalkedAll (8 * recordLength P) (pageWords P 44) ∙ length-pageWords P 44))
+      (length-small inspectCode P out (omega arith));
   write-file = λ d P out. taken-apart (writeFileChecks d P out) _ (omega arith, (omega arith, tt)) (file-small d P out);
 }

@@ -8,6 +8,7 @@ use Rattle.word.specs.Answer.{encodeAnswer, decodeAnswer, fillAnswer, capacityA
 use Rattle.page.specs.Answer.{writeFirstAnswer, readFirstAnswer}
 use Rattle.filled.specs.Answer.{fillPageAnswer, pageCapacityAnswer}
 use Rattle.second.specs.Answer.{writeSecondAnswer, readSecondAnswer}
+use Rattle.inspect.specs.Answer.{writeInspectAnswer, readInspectAnswer}
 use Rattle.transfer.specs.Answer.{writeFileAnswer}
 
 -- for every argument of each word operation
@@ -25,4 +26,6 @@ pub record PageAnswersFaithful : Type 0 where
   pub fill-page : (P : List ℕ) → Faithful (fillPageAnswer P)
   pub write-second : (P R : List ℕ) → Faithful (writeSecondAnswer P R)
   pub read-second : (P out : List ℕ) → Faithful (readSecondAnswer P out)
+  pub write-inspect : (P R : List ℕ) → Faithful (writeInspectAnswer P R)
+  pub read-inspect : (P out : List ℕ) → Faithful (readInspectAnswer P out)
   pub write-file : (d : ℕ) (P out : List ℕ) → Faithful (writeFileAnswer d P out)

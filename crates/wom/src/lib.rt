@@ -1,9 +1,11 @@
 // The entry points for C, thin: each calls one operation and packs its answer. include/wom.h declares them.
 //
 // Bits 56 to 63 of an answer are the refusal's number, 0 for none; bits 0 to 55 are the result, or the refusal's index: the word's for 7,
-// the capacity for 8, else 0. The word fill's result has the word in bits 0 to 47 and the pulses in bits 48 to 55. Every entry is defined for
+// the capacity or the bits taken for 8, else 0. The word fill's result has the word in bits 0 to 47 and the pulses in bits 48 to 55. Every entry is defined for
 // every argument.
 use filled::PageFilled;
+use inspect::InspectRead;
+use inspect::InspectWritten;
 use page::FirstRead;
 use page::FirstWritten;
 use second::SecondRead;
@@ -21,6 +23,7 @@ ghost use Rattle.word.specs.Answer.{encodeAnswer, decodeAnswer, fillAnswer, cap
 ghost use Rattle.page.specs.Answer.{writeFirstAnswer, writeFirstLeaves, readFirstAnswer, readFirstLeaves, firstWrittenCode, firstReadCode};
 ghost use Rattle.filled.specs.Answer.{fillPageAnswer, fillPageLeaves, pageCapacityAnswer, pageFilledCode};
 ghost use Rattle.second.specs.Answer.{writeSecondAnswer, writeSecondLeaves, readSecondAnswer, readSecondLeaves, secondWrittenCode, secondReadCode};
+ghost use Rattle.inspect.specs.Answer.{writeInspectAnswer, writeInspectLeaves, readInspectAnswer, readInspectLeaves, inspectWrittenCode, inspectReadCode};
 ghost use Rattle.transfer.specs.Answer.{writeFileAnswer, writeFileLeaves, fileWrittenCode};
 ghost use Rattle.filled.specs.Answer as pages;
 
@@ -259,6 +262,51 @@ pub extern "C" fn wom_read_second(page: &[u8], out: &mut [u8]) -> u64
     ensures bytes { λ _. ⌜ now (out .exit) ≡ readSecondLeaves (now (page .entry)) (now (out .entry)) ⌝ }
 {
     pack_second_read(second::read_second(page, out))
+}
+
+fn pack_inspect_written(w: InspectWritten) -> u64
+    ensures { λ r. ⌜ r ≡ packed (inspectWrittenCode w) ⌝ }
+{
+    match w {
+        InspectWritten::Done => 0,
+        InspectWritten::PageLength => PAGE_LENGTH,
+        InspectWritten::State => STATE,
+        InspectWritten::Header => HEADER,
+        InspectWritten::Word(i) => with_index(WORD, i),
+        InspectWritten::RecordLength(n) => with_index(RECORD_LENGTH, n),
+    }
+}
+
+// Write Inspect: 0, or 1, 5, 6, 7 with the word's index, or 8 with the bits that the walks take.
+#[no_mangle]
+pub extern "C" fn wom_write_inspect(page: &mut [u8], second: &[u8]) -> u64
+    ensures answer { λ r. ⌜ r ≡ packed (writeInspectAnswer (now (page .entry)) (now (second .entry))) ⌝ }
+    ensures bytes { λ _. ⌜ now (page .exit) ≡ writeInspectLeaves (now (page .entry)) (now (second .entry)) ⌝ }
+{
+    pack_inspect_written(inspect::write_inspect(page, second))
+}
+
+fn pack_inspect_read(s: InspectRead) -> u64
+    ensures { λ r. ⌜ r ≡ packed (inspectReadCode s) ⌝ }
+{
+    match s {
+        InspectRead::Length(n) => n as u64,
+        InspectRead::PageLength => PAGE_LENGTH,
+        InspectRead::State => STATE,
+        InspectRead::Header => HEADER,
+        InspectRead::Word(i) => with_index(WORD, i),
+        InspectRead::EndsBefore => DATA_CELLS,
+        InspectRead::OutputLength => OUTPUT_LENGTH,
+    }
+}
+
+// Read Inspect: the record's length, or 1, 5, 6, 7 with the word's index, 9 or 3.
+#[no_mangle]
+pub extern "C" fn wom_read_inspect(page: &[u8], out: &mut [u8]) -> u64
+    ensures answer { λ r. ⌜ r ≡ packed (readInspectAnswer (now (page .entry)) (now (out .entry))) ⌝ }
+    ensures bytes { λ _. ⌜ now (out .exit) ≡ readInspectLeaves (now (page .entry)) (now (out .entry)) ⌝ }
+{
+    pack_inspect_read(inspect::read_inspect(page, out))
 }
 
 fn pack_file_written(f: FileWritten) -> u64

@@ -12,32 +12,33 @@ use Rattle.cells.specs.Bytes.{atStart}
 use Rattle.answer.proofs.Chains.{both-refused, both-done}
 use Rattle.word.specs.Fill.{wellFormed}
 use Rattle.rows.specs.Page.{page256}
+use Rattle.rows.specs.Code.{fillCode}
 use Rattle.page.proofs.Headed.{lowest-bad}
-use Rattle.second.proofs.SecondAnswers.{read-second-1, read-second-5, read-second-6, read-second-7}
-use Rattle.second.proofs.read_second.Proof.SecondChecks.{Found, all-found, second-few, second-spare, second-output, second-done, second-record}
+use Rattle.page.proofs.CodeAnswers.{read-1, read-5, read-6, read-7}
+use Rattle.second.proofs.read_second.Proof.SecondChecks.{same-judged, Found, all-found, second-few, second-spare, second-output, second-done, second-record}
 use Rattle.second.proofs.read_second.Statement.{statement}
 use Rattle.second.proofs.read_second.Tie as tie
 
 returns : tie.Need-returns
-returns c = both-refused _ _ _ _ _ (read-second-1 page256 _ _ 0 .1 (c .if1 .taken, refl))
+returns c = both-refused _ _ _ _ _ (read-1 fillCode same-judged page256 _ _ 0 .1 (c .if1 .taken, refl))
 
 shared-slice-read-if2 : tie.Need-shared-slice-read-if2
 shared-slice-read-if2 c = search needs
 
 returns-2 : tie.Need-returns-2
-returns-2 c = both-refused _ _ _ _ _ (read-second-5 page256 _ _ 0 .1 (omega arith, c .if2 .taken, refl))
+returns-2 c = both-refused _ _ _ _ _ (read-5 fillCode same-judged page256 _ _ 0 .1 (omega arith, c .if2 .taken, refl))
 
 shared-slice-read-if3 : tie.Need-shared-slice-read-if3
 shared-slice-read-if3 c = search needs
 
 returns-3 : tie.Need-returns-3
-returns-3 c = both-refused _ _ _ _ _ (read-second-6 page256 _ _ 0 .1 (omega arith, c .before .before .if2 .left, inl (c .if3 .taken), refl))
+returns-3 c = both-refused _ _ _ _ _ (read-6 fillCode same-judged page256 _ _ 0 .1 (omega arith, c .before .before .if2 .left, inl (c .if3 .taken), refl))
 
 shared-slice-read-if4 : tie.Need-shared-slice-read-if4
 shared-slice-read-if4 c = search needs
 
 returns-4 : tie.Need-returns-4
-returns-4 c = both-refused _ _ _ _ _ (read-second-6 page256 _ _ 0 .1 (omega arith, c .before .before .before .before .if2 .left, inr (c .if4 .taken), refl))
+returns-4 c = both-refused _ _ _ _ _ (read-6 fillCode same-judged page256 _ _ 0 .1 (omega arith, c .before .before .before .before .if2 .left, inr (c .if4 .taken), refl))
 
 slice-aggregate-gather : tie.Need-slice-aggregate-gather
 slice-aggregate-gather c = search needs
@@ -57,7 +58,8 @@ returns-5 c =
     let e2 = e3 .before .before in
     let g = found .gather .ensures .0 in
     both-refused _ _ _ _ _
-    (read-second-7 page256 _ _ _ .1 ((omega arith, e2 .if2 .left, e3 .if3 .left, e4 .if4 .left), lowest-bad page256 wellFormed _ _ .0 (omega (arith, g, small .if5 .taken), g)))
+    (read-7 fillCode same-judged page256 _ _ _ .1
+    ((omega arith, e2 .if2 .left, e3 .if3 .left, e4 .if4 .left), lowest-bad page256 wellFormed _ _ g (small .if5 .taken)))
 
 -- all words are well formed, and their bits are in the buffer
 all : (c : tie.Else5) →

@@ -5,14 +5,15 @@ use mathlib.Core.Path.{_≡_, refl, sym, ap, _∙_}
 use native.Mathlib.Omega.{arith}
 use borrow.Author.Needs.{needs}
 use lib.ListN.{length, length-set}
-use Rattle.answer.proofs.Chains.{still-refused, both-refused, both-done}
+use Rattle.answer.proofs.Chains.{both-refused, both-done}
 use Rattle.window.proofs.Words.{length-putWords}
 use Rattle.word.specs.Fill.{isFilled}
 use Rattle.rows.specs.Page.{lowest, page256, FilledOf}
+use Rattle.rows.specs.Code.{fillCode}
 use Rattle.page.proofs.Headed.{all-words}
+use Rattle.page.proofs.CodeAnswers.{write-refused}
 use Rattle.filled.specs.Answer.{filledChecks, roomFilled, filledCheckCode}
 use Rattle.filled.proofs.FilledAnswers.{check-filled-taken}
-use Rattle.second.specs.Answer.{writeSecondChecks}
 use Rattle.second.proofs.write_second.Proof.Headers.{header-length, header-words, room-small, second-set, write-long, write-done}
 use Rattle.second.proofs.write_second.Statement.{statement}
 use Rattle.second.proofs.write_second.Tie as tie
@@ -56,7 +57,7 @@ put-record-requires : tie.Need-put-record-requires
 put-record-requires c κs =
     let p = passed (c .before .before) .0 in (
       rw header-length (omega (arith, p .sized)),
-      ap (lowest isFilled) (header-words _ _ _ 44) ∙ all-words page256 isFilled _ (p .words-filled),
+      ap (lowest isFilled) (header-words _ _ _ 44) ∙ all-words page256 isFilled _ (p .words-pass),
       omega arith,
     )
 
@@ -87,29 +88,29 @@ same-length-3 : tie.Need-same-length-3
 same-length-3 c = search needs
 
 returns-3 : tie.Need-returns-3
-unfolding writeSecondChecks
-returns-3 c = both-refused _ _ _ _ _ (still-refused (filledChecks page256 _) _ _ 0 _ _ (sym (c .before .before .check-filled .ensures) ∙ ap filledCheckCode (c .enum-told .given .1)))
+unfolding filledChecks
+returns-3 c = both-refused _ _ _ _ _ (write-refused fillCode page256 _ _ _ _ _ (sym (c .before .before .check-filled .ensures) ∙ ap filledCheckCode (c .enum-told .given .1)))
 
 same-length-4 : tie.Need-same-length-4
 same-length-4 c = search needs
 
 returns-4 : tie.Need-returns-4
-unfolding writeSecondChecks
-returns-4 c = both-refused _ _ _ _ _ (still-refused (filledChecks page256 _) _ _ 0 _ _ (sym (c .before .before .check-filled .ensures) ∙ ap filledCheckCode (c .enum-told2 .given .1)))
+unfolding filledChecks
+returns-4 c = both-refused _ _ _ _ _ (write-refused fillCode page256 _ _ _ _ _ (sym (c .before .before .check-filled .ensures) ∙ ap filledCheckCode (c .enum-told2 .given .1)))
 
 same-length-5 : tie.Need-same-length-5
 same-length-5 c = search needs
 
 returns-5 : tie.Need-returns-5
-unfolding writeSecondChecks
-returns-5 c = both-refused _ _ _ _ _ (still-refused (filledChecks page256 _) _ _ 0 _ _ (sym (c .before .before .check-filled .ensures) ∙ ap filledCheckCode (c .enum-told3 .given .1)))
+unfolding filledChecks
+returns-5 c = both-refused _ _ _ _ _ (write-refused fillCode page256 _ _ _ _ _ (sym (c .before .before .check-filled .ensures) ∙ ap filledCheckCode (c .enum-told3 .given .1)))
 
 same-length-6 : tie.Need-same-length-6
 same-length-6 c = search needs
 
 returns-6 : tie.Need-returns-6
-unfolding writeSecondChecks
-returns-6 c = both-refused _ _ _ _ _ (still-refused (filledChecks page256 _) _ _ 0 _ _ (sym (c .before .before .before .check-filled .ensures) ∙ ap filledCheckCode (c .before .c2 .given .1)))
+unfolding filledChecks
+returns-6 c = both-refused _ _ _ _ _ (write-refused fillCode page256 _ _ _ _ _ (sym (c .before .before .before .check-filled .ensures) ∙ ap filledCheckCode (c .before .c2 .given .1)))
 
 pub write-second-spec : {M : Type 1} → statement M
 write-second-spec =

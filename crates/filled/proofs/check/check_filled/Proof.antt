@@ -55,7 +55,7 @@ returns-5 c =
     let a = e2 .before .before .before .before .args in
     let s = shape (a .size) (a .n) in
     sym (check-filled-refusals s _ _ .seven _ .1
-    ((omega arith, e2 .if2 .left, e3 .if3 .left, e4 .if4 .left), lowest-bad s isFilled _ _ .0 (omega (arith, found), found)))
+    ((omega arith, e2 .if2 .left, e3 .if3 .left, e4 .if4 .left), lowest-bad s isFilled _ _ found (omega arith)))
 
 -- all words are filled: their number is the page's, and so is that of their data cells
 passed : (c : tie.Else5) →
@@ -79,7 +79,7 @@ passed c =
       in-state = e2 .if2 .left;
       byte1-zero = e3 .if3 .left;
       byte2-zero = e4 .if4 .left;
-      words-filled = w;
+      words-pass = w;
     } in
     (f, found .1 ∙ ap (λ (k : ℕ). length (readAll (pageWords P k))) (found .0 ∙ all-words s isFilled P w))
 

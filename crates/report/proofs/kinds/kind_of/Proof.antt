@@ -5,7 +5,7 @@ use mathlib.Core.Path.{sym, ap, _∙_}
 use borrow.Author.Needs.{needs}
 use Rattle.rows.specs.Page.{state}
 use Rattle.report.specs.Kinds.{kindBy, openKind}
-use Rattle.report.proofs.Deciding.{kind-not-sized, kind-00, kind-open, kind-07, kind-unknown}
+use Rattle.report.proofs.Deciding.{kind-not-sized, kind-00, kind-open, kind-07, kind-09, kind-unknown}
 use Rattle.report.proofs.kinds.kind_of.Statement.{statement}
 use Rattle.report.proofs.kinds.kind_of.Tie as tie
 
@@ -27,6 +27,9 @@ kind-measured-requires c κs = search needs
 second-kind-requires : tie.Need-second-kind-requires
 second-kind-requires c κs = search needs
 
+inspect-kind-requires : tie.Need-inspect-kind-requires
+inspect-kind-requires c κs = search needs
+
 returns-2 : tie.Need-returns-2
 returns-2 c = c .blank-kind .ensures ∙ sym (kind-00 _ (c .before .before .before .if1 .left) (c .before .match .keys1))
 
@@ -40,9 +43,14 @@ returns-4 : tie.Need-returns-4
 returns-4 c = c .second-kind .ensures ∙ sym (kind-07 _ (c .before .before .before .if1 .left) (c .before .match .keys3))
 
 returns-5 : tie.Need-returns-5
-returns-5 c =
-    let neither = c .match .rest .0 .1 in
-    sym (kind-unknown _ (c .before .before .if1 .left) (c .match .rest .0 .0 .1) (λ e. neither (inl e)) (λ e. neither (inr e)) (c .match .rest .1))
+returns-5 c = c .inspect-kind .ensures ∙ sym (kind-09 _ (c .before .before .before .if1 .left) (c .before .match .keys4))
+
+returns-6 : tie.Need-returns-6
+returns-6 c =
+    let neither = c .match .rest .0 .0 .1 in
+    sym
+    (kind-unknown _ (c .before .before .if1 .left) (c .match .rest .0 .0 .0 .1) (λ e. neither (inl e)) (λ e. neither (inr e)) (c .match .rest .0 .1)
+    (c .match .rest .1))
 
 pub kind-of-spec : {M : Type 1} → statement M
 kind-of-spec =
@@ -54,7 +62,9 @@ kind-of-spec =
     capacity-requires
     kind-measured-requires
     second-kind-requires
+    inspect-kind-requires
     returns-2
     returns-3
     returns-4
-    returns-5)
+    returns-5
+    returns-6)

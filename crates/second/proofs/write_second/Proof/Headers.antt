@@ -10,14 +10,15 @@ use Rattle.cells.specs.Bytes.{bits}
 use Rattle.answer.specs.Answer.{result, refusal}
 use Rattle.window.specs.Words.{pageWords, putWords}
 use Rattle.window.proofs.Words.{pageWords-set}
-use Rattle.rows.specs.Page.{Shape, page256, putAll, secondPage, FilledOf}
+use Rattle.rows.specs.Page.{Shape, page256, withHeader, putAll, FilledOf}
+use Rattle.rows.specs.Code.{fillCode, writtenOf}
 use Rattle.rows.proofs.EachWord.{row-page}
 use Rattle.rows.proofs.SecondWords.{read-most}
+use Rattle.page.proofs.CodeAnswers.{write-taken, write-8}
 use Rattle.filled.specs.Answer.{roomFilled}
 use Rattle.second.specs.Answer.{writeSecondAnswer}
-use Rattle.second.proofs.SecondAnswers.{write-second, write-second-8}
 
-header-set : (P : List ℕ) (a b : ℕ) → 2 ≤ length P → set (set P 0 a) 1 b ≡ a ∷ b ∷ drop 2 P
+header-set : (P : List ℕ) (a b : ℕ) → 2 ≤ length P → set (set P 0 a) 1 b ≡ withHeader a b P
 header-set P a b h =
     ap (λ (p : List ℕ). set p 1 b) (set-split P 0 a (omega arith))
     ∙ ap (λ (p : List ℕ). a ∷ p) (set-split (drop 1 P) 0 b (omega (arith, length-drop 1 P)) ∙ ap (λ (p : List ℕ). b ∷ p) (drop-drop 1 1 P))
@@ -30,8 +31,8 @@ pub header-words : (P : List ℕ) (a b n : ℕ) → pageWords (set (set P 0 a) 1
 header-words P a b n = pageWords-set (set P 0 a) 1 b n (omega arith) ∙ pageWords-set P 0 a n (omega arith)
 
 pub second-set : (s : Shape) (P bs : List ℕ) → 2 ≤ length P
-    → putWords (set (set P 0 7) 1 (length bs)) (putAll (pageWords (set (set P 0 7) 1 (length bs)) (s .words)) (bits bs)) ≡ secondPage s P bs
-unfolding secondPage
+    → putWords (set (set P 0 7) 1 (length bs)) (putAll (pageWords (set (set P 0 7) 1 (length bs)) (s .words)) (bits bs)) ≡ writtenOf fillCode s P bs
+unfolding writtenOf
 second-set s P bs h =
     ap₂ (λ (p : List ℕ) (ws : List (List Bool)). putWords p (putAll ws (bits bs)))
     (header-set P 7 (length bs) h) (header-words P 7 (length bs) (s .words))
@@ -44,7 +45,7 @@ module _ (P R : List ℕ) (f : FilledOf page256 P) (room : ℕ) (e : room ≡ ro
       omega (arith, r .0, read-most (pageWords P 44) (r .1))
 
   pub write-long : room / 8 < length R → writeSecondAnswer P R ≡ refusal 8 room
-  write-long h = write-second-8 page256 P R room (f .of-bytes) .1 (f, omega arith, e)
+  write-long h = write-8 fillCode page256 P R room (f .of-bytes) .1 (f, e, omega arith)
 
   pub write-done : length R ≤ room / 8 → writeSecondAnswer P R ≡ result 0
-  write-done h = write-second page256 P R 0 (f .of-bytes) .1 (f, omega arith, refl)
+  write-done h = write-taken fillCode page256 P R 0 (f .of-bytes) .1 (f, omega arith, refl)

@@ -1,0 +1,2 @@
+-- The laws of the Inspect code on rows of words.
+pub mod Rows

@@ -1,2 +1,0 @@
--- Laws of the answers over a second record, and what the operations know on their way.
-pub mod SecondAnswers
