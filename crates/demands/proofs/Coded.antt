@@ -2,14 +2,14 @@
 -- outcome, and what a page that the writer or the reader takes comes from.
 -- Assumes nothing.
 use mathlib.Core.Bool.{Bool, true, false}
-use mathlib.Core.List.{List, [], _∷_, _++_}
+use mathlib.Core.List.{List, [], _∷_}
 use mathlib.Core.Path.{_≡_, refl, sym, ap, ap₂, _∙_, subst}
-use Prim.Native.Nat.{ℕ, suc, _+_, _*_, _≤_, _<_}
+use Prim.Native.Nat.{ℕ, suc, _*_, _≤_, _<_}
 use native.Mathlib.Omega.{arith}
 use borrow.Author.Tests.{eqb-true, eqb-false}
 use lib.Dec.{T, eqb}
 use lib.ListN.{length, take, drop, getD, length-take, take-append-drop}
-use Rattle.cells.specs.Cells.{bit, cells, kept}
+use Rattle.cells.specs.Cells.{bit, kept}
 use Rattle.cells.specs.Bytes.{bits, bytes, Bytes}
 use Rattle.cells.proofs.Bytes.{length-bits, length-bytes, bytes-bits, Bytes-bytes, Bytes-drop}
 use Rattle.cells.proofs.Fits.{bits-front, bytes-front}

@@ -1,14 +1,14 @@
 -- What is demanded of a code (specs/Demands.antt), of any code that obeys the laws of a code, on document 01's page.
 -- Assumes nothing.
 use mathlib.Core.Bool.{Bool}
-use mathlib.Core.List.{List, [], _∷_, _++_}
+use mathlib.Core.List.{List, _++_}
 use mathlib.Core.Logic.{_↔_, Iff·trans}
 use mathlib.Core.Path.{_≡_, refl, sym, ap, _∙_, subst}
 use Prim.Native.Nat.{ℕ, _*_, _≤_, _<_}
 use native.Mathlib.Omega.{arith}
 use lib.ListN.{length, drop}
 use Rattle.cells.specs.Bytes.{bits, Bytes, atStart}
-use Rattle.answer.specs.Answer.{result, refusal, answer, numbers}
+use Rattle.answer.specs.Answer.{result, refusal, numbers}
 use Rattle.answer.proofs.Chains.{no-other, refused-leaves, taken-leaves, output-leaves}
 use Rattle.rows.specs.Page.{page256, recordLength}
 use Rattle.rows.specs.Code.{Code, writtenOf, recordOf}

@@ -6,7 +6,7 @@ use mathlib.Core.List.{List}
 use mathlib.Core.Path.{_≡_}
 use Prim.Native.Nat.{ℕ, _<_}
 use lib.Dec.{T}
-use lib.ListN.{length, drop, getD}
+use lib.ListN.{drop, getD}
 use Rattle.cells.specs.Cells.{bit}
 use Rattle.cells.specs.Bytes.{bits, Bytes}
 use Rattle.window.specs.Words.{wordAt, pageWords}

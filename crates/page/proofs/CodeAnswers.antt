@@ -2,7 +2,7 @@
 -- code is asked for, but that the words which 7 judges are as many as the page has.
 -- Assumes nothing.
 use mathlib.Core.Bool.{Bool, false, not, _||_}
-use mathlib.Core.List.{List, []}
+use mathlib.Core.List.{List}
 use mathlib.Core.Logic.{_↔_, _⊎_, Iff·trans}
 use mathlib.Core.Path.{_≡_, refl, _∙_}
 use Prim.Native.Nat.{ℕ, _*_, _≤_, _<_}
@@ -12,7 +12,7 @@ use lib.ListN.{length}
 use Rattle.cells.specs.Bytes.{Bytes}
 use Rattle.answer.specs.Answer.{result, refusal, answer, numbers, among}
 use Rattle.answer.proofs.Chains.{still-refused}
-use Rattle.answer.proofs.Tells.{Tells, unequal, less, itself, either, just, later, taken, nothing-left, flat3, flat4}
+use Rattle.answer.proofs.Tells.{Tells, unequal, less, itself, either, just, later, taken, nothing-left, flat3}
 use Rattle.window.specs.Words.{pageWords}
 use Rattle.window.proofs.Words.{length-pageWords}
 use Rattle.rows.specs.Page.{Shape, state, byte2, recordLength}

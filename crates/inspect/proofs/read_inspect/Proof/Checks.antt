@@ -7,7 +7,6 @@ use native.Mathlib.Omega.{arith}
 use lib.ListN.{length, take}
 use Rattle.cells.specs.Bytes.{bytes, Bytes}
 use Rattle.answer.specs.Answer.{result, refusal}
-use Rattle.window.specs.Words.{pageWords}
 use Rattle.word.specs.Word.{legal}
 use Rattle.rows.specs.Page.{byte1, lowest, page256}
 use Rattle.rows.specs.Code.{foundOf, judgedOf, recordOf, AllJudgedOf, SecondRoundOf}
