@@ -8,12 +8,13 @@ use native.Mathlib.Nat.{zero-add, suc-add, suc-sub-suc, sub-zero, le-of-suc-le-s
 use native.Mathlib.Omega.{arith}
 use borrow.Author.Tests.{ne-eqb}
 use lib.Dec.{eqb}
-use lib.ListN.{length, take, drop, replicate, length-drop}
+use lib.ListN.{length, take, drop, replicate, length-drop, length-replicate}
 use lib.Pow.{pow-pos}
 use lib.Seq.{drop-nil, length-take-le, take-add, take-at, take-append-le, drop-append-le}
 use Rattle.cells.specs.Cells.{first, rest, number, cells, fit, someSet}
 use Rattle.cells.specs.Bytes.{bits, bytes, Bytes, zeros}
-use Rattle.cells.proofs.Numbers.{number-cells, cells-of}
+use Rattle.cells.proofs.Numbers.{number-cells, number-append, cells-of}
+use Rattle.cells.proofs.Bits.{cells-zero}
 use Rattle.cells.proofs.Bytes.{length-bits, length-bytes, bytes-bits, Bytes-bytes}
 
 -- ---- n cells of some cells
@@ -49,6 +50,13 @@ pub fit-add : (m n : ℕ) (l : List Bool) → fit (m + n) l ≡ fit m l ++ fit n
 unfolding fit
 fit-add zero n l = ap (λ (k : ℕ). fit k l) (zero-add n)
 fit-add (suc m) n l = rw (suc-add m n, fit-add m n (rest l), drop-rest m l)
+
+-- as a number
+pub number-fit : (n : ℕ) (l : List Bool) → length l ≤ n → number (fit n l) ≡ number l * 2 ^ (n - length l)
+number-fit n l h =
+    let m : ℕ = n - length l in
+    ap number (fit-pad n l h) ∙ number-append l (replicate m false)
+    ∙ rw (length-replicate m false, ← cells-zero m, number-cells m 0 (pow-pos m)) (omega arith)
 
 -- ---- no cell set
 

@@ -4,12 +4,12 @@
 use mathlib.Core.Bool.{Bool}
 use mathlib.Core.List.{List, [], _∷_, _++_}
 use mathlib.Core.Path.{_≡_, refl, sym, ap, _∙_}
-use Prim.Native.Nat.{ℕ, zero, suc, _+_, _*_, _/_, _≤_, _<_}
+use Prim.Native.Nat.{ℕ, _+_, _*_, _/_, _≤_, _<_}
 use native.Mathlib.Omega.{arith}
 use lib.ListN.{length, drop, drop-of-length-le, length-drop}
 use lib.Seq.{drop-at, drop-cons, drop-drop}
 use Rattle.cells.specs.Bytes.{bits, bytes, Bytes}
-use Rattle.cells.proofs.Bytes.{length-bytes, Bytes-drop}
+use Rattle.cells.proofs.Bytes.{length-bytes, Bytes-drop, Bytes-three}
 use Rattle.window.specs.Words.{join, pageWords, putWords, pageOf}
 use Rattle.window.proofs.Words.{putWords-all, putWords-own, bits-pageOf, length-pageOf, Bytes-pageOf, pageWords-pageOf}
 use Rattle.rows.specs.Page.{page256, Shape, state, byte1, byte2, withHeader, firstWords, firstPage, OpenOf}
@@ -39,12 +39,6 @@ pub record Sound (σ : Shape) : Type 0 where
 -- document 01's page
 pub sound256 : Sound page256
 sound256 = record { whole = refl; inside = omega arith }
-
-Bytes-three : (a b c : ℕ) (l : List ℕ) → a < 256 → b < 256 → c < 256 → Bytes l → Bytes (a ∷ b ∷ c ∷ l)
-Bytes-three a b c l ha hb hc hl zero = ha
-Bytes-three a b c l ha hb hc hl (suc zero) = hb
-Bytes-three a b c l ha hb hc hl (suc (suc zero)) = hc
-Bytes-three a b c l ha hb hc hl (suc (suc (suc i))) = hl i
 
 module _ {σ : Shape} (f : Sound σ) where
   abbrev n : ℕ

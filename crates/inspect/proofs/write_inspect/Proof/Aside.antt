@@ -2,11 +2,12 @@
 use mathlib.Core.Bool.{Bool}
 use mathlib.Core.List.{List, [], _∷_, append-nil}
 use mathlib.Core.Path.{_≡_, refl, sym, ap, _∙_}
-use Prim.Native.Nat.{ℕ, zero, suc, _+_, _*_, _/_, _≤_, _<_}
+use Prim.Native.Nat.{ℕ, suc, _+_, _*_, _/_, _≤_, _<_}
 use native.Mathlib.Omega.{arith}
 use lib.ListN.{length, take, drop, set, drop-of-length-le}
 use lib.Seq.{take-all, drop-drop}
 use Rattle.cells.specs.Bytes.{bits, Bytes, atStart}
+use Rattle.cells.proofs.Bytes.{Bytes-three}
 use Rattle.answer.specs.Answer.{result, refusal}
 use Rattle.window.specs.Words.{pageWords, putWords, pageOf, Words}
 use Rattle.window.proofs.Words.{putWords-all, length-putWords}
@@ -26,12 +27,6 @@ copied to from a b =
     let n : length to ≤ length from = omega arith in
     rw (t, drop-of-length-le to n) (append-nil from)
 
-three : (a b c : ℕ) (l : List ℕ) → a < 256 → b < 256 → c < 256 → Bytes l → Bytes (a ∷ b ∷ c ∷ l)
-three a b c l ha hb hc hl zero = ha
-three a b c l ha hb hc hl (suc zero) = hb
-three a b c l ha hb hc hl (suc (suc zero)) = hc
-three a b c l ha hb hc hl (suc (suc (suc i))) = hl i
-
 -- the header may be set after the words
 header-put : (ws : List (List Bool)) (m : ℕ) → Words ws → 46 * length ws ≡ 8 * m → (P : List ℕ) (a b : ℕ) → Bytes P → 3 + m ≤ length P → a < 256 → b < 256
     → set (set (putWords P ws) 0 a) 1 b ≡ putWords (withHeader a b P) ws
@@ -42,7 +37,7 @@ header-put ws m hs e (x ∷ y ∷ z ∷ P) a b hp h ha hb =
     let old : putWords (x ∷ y ∷ z ∷ P) ws ≡ pageOf (x ∷ y ∷ z ∷ []) ws (drop m P) =
     putWords-all ws m hs e (x ∷ y ∷ z ∷ P) hp h ∙ ap (pageOf (x ∷ y ∷ z ∷ []) ws) (sym (drop-drop m 3 (x ∷ y ∷ z ∷ P))) in
     let new : putWords (a ∷ b ∷ z ∷ P) ws ≡ pageOf (a ∷ b ∷ z ∷ []) ws (drop m P) =
-    putWords-all ws m hs e (a ∷ b ∷ z ∷ P) (three a b z P ha hb (hp 2) (λ i. hp (suc (suc (suc i))))) (omega arith)
+    putWords-all ws m hs e (a ∷ b ∷ z ∷ P) (Bytes-three a b z P ha hb (hp 2) (λ i. hp (suc (suc (suc i))))) (omega arith)
     ∙ ap (pageOf (a ∷ b ∷ z ∷ []) ws) (sym (drop-drop m 3 (a ∷ b ∷ z ∷ P))) in
     ap (λ (p : List ℕ). set (set p 0 a) 1 b) old ∙ changed x y z (drop m P) ∙ sym new
   where
