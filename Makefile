@@ -45,7 +45,7 @@ dist: same-kit archive ## packs archive, header, C-API, annex and changes, with 
 	@rm -rf target/$(DIST) target/$(DIST).tar.gz
 	@tests/digests check
 	@mkdir target/$(DIST)
-	cp target/staticlib/libwom.a include/wom.h docs/C-API.md docs/ANNEX.md docs/word-stages.svg CHANGELOG.md target/$(DIST)
+	cp target/staticlib/libwom.a include/wom.h docs/C-API.md docs/ANNEX.md docs/word-stages.svg docs/codes.svg CHANGELOG.md target/$(DIST)
 	cd target/$(DIST) && sha256sum * >../SHA256SUMS && mv ../SHA256SUMS .
 	tar -C target --sort=name --owner=0 --group=0 --numeric-owner --mode=u=rwX,go=rX --mtime=@$$(git log -1 --format=%ct) -cf target/$(DIST).tar $(DIST)
 	gzip -nf target/$(DIST).tar
@@ -60,7 +60,7 @@ CASES = 2000000
 differential: archive ## compares the archive with the independent program: SEED=2 CASES=2000000, a minute or two
 	$(SECOND) differential -- run $(SEED) $(CASES)
 
-damage: archive ## counts what the readers notice of one changed cell, on 100 pages: half a minute
+damage: archive ## counts what the readers notice of one changed cell, on 200 pages: half a minute
 	@mkdir -p target/demo
 	$(CC99) -o target/demo/damage tests/damage.c target/staticlib/libwom.a
 	@target/demo/damage
@@ -73,11 +73,13 @@ annex: same-kit ## prints the annex to target/annex.pdf
 digests: archive ## renews the kit and the digests in the annex's head
 	tests/digests renew
 
-figure: archive ## draws the annex's figure from the library's answers
+figure: archive ## draws the documents' two figures from the library's answers
 	mkdir -p target/demo
 	$(CC99) -o target/demo/word_stages examples/word_stages.c target/staticlib/libwom.a
+	$(CC99) -o target/demo/inspect_plot examples/inspect_plot.c target/staticlib/libwom.a
 	target/demo/word_stages >target/demo/word-stages.svg
-	cp target/demo/word-stages.svg docs/word-stages.svg
+	target/demo/inspect_plot >target/demo/codes.svg
+	cp target/demo/word-stages.svg target/demo/codes.svg docs
 
 vectors: ## makes the files of the programs vectors, listing and gain, by the independent program
 	$(SECOND) generate -- vectors crates/vectors

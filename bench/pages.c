@@ -1,14 +1,15 @@
 /*
  * The page operations on 100 pseudo-random pages, with the longest record that
- * fits, and each on the page that takes it most instructions. How it is
- * started: passes.h. Before each call the page is copied afresh, for `nothing`
- * as well.
+ * fits, and each on the page that takes it most instructions. A random record
+ * of the Inspect code is one tenth ones. How it is started: passes.h. Before
+ * each call the page is copied afresh, for `nothing` as well.
  *
  * Kinds: answer    an answer
  *        page      the page afterwards
  *        out       the output afterwards
  *        data      the first record afterwards, which is only read
  *        record    the second record afterwards, which is only read
+ *        sparse    that of the Inspect code
  *        refusal   an answer on a page that is refused
  */
 #include "../tests/c/testing.h"
@@ -19,11 +20,13 @@
 #define COUNT 100
 
 /* The worst pages come after the random ones. Write first and read first have a
- * turn for each set cell, write second and read second one for each data cell;
- * page capacity and fill page take the same on every page. */
+ * turn for each set cell, write second and read second one for each data cell,
+ * write inspect and read inspect one for each pair; page capacity and fill page
+ * take the same on every page. */
 enum { MOST_SET = COUNT, MOST_ROOM, SHORT_RECORD, ACCEPTED };
 
-/* All 44 words have the value. */
+/* All 44 words have the value. The record of the Inspect code is all ones: a
+ * pair each. */
 static const struct {
     uint32_t value;
     size_t longest; /* the record's bytes, or fewer where these do not fit */
@@ -33,21 +36,25 @@ static const struct {
     {0, 7}, /* of all lengths the longest to copy and to test the spare cells */
 };
 
-#define REFUSED 25
+#define REFUSED 36
 #define PAGES (ACCEPTED + REFUSED)
 
 typedef uint8_t page_bytes[WOM_PAGE_BYTES];
 
-/* For each page: the first record, the second record and its length, and the
- * page in its four states. The refused ones are compared only. */
+/* For each page: the first record, the second record and its length, the
+ * Inspect code's, with room for one that does not fit, and its length, and the
+ * page in its five states. The refused ones are compared only. */
 static uint8_t data[PAGES][WOM_FIRST_BYTES];
 static uint8_t record[PAGES][WOM_SECOND_BYTES_MAX];
 static size_t record_length[PAGES];
+static uint8_t sparse[PAGES][WOM_INSPECT_BYTES_MAX + 1];
+static size_t sparse_length[PAGES];
 static page_bytes blank[PAGES], first[PAGES], filled[PAGES], second[PAGES];
+static page_bytes inspect[PAGES];
 
 /* What a call works on. */
 static page_bytes page;
-static uint8_t out[WOM_FIRST_BYTES];
+static uint8_t out[WOM_INSPECT_BYTES_MAX];
 
 #define WITH_DATA(f)                                                  \
     static uint64_t call_##f(int i)                                   \
@@ -61,11 +68,11 @@ static uint8_t out[WOM_FIRST_BYTES];
         memcpy(page, pages[i], sizeof page);                          \
         return f(page, sizeof page);                                  \
     }
-#define WITH_RECORD(f)                                                \
+#define WITH_RECORD(f, pages, record)                                 \
     static uint64_t call_##f(int i)                                   \
     {                                                                 \
-        memcpy(page, filled[i], sizeof page);                         \
-        return f(page, sizeof page, record[i], record_length[i]);     \
+        memcpy(page, pages[i], sizeof page);                          \
+        return f(page, sizeof page, record[i], record##_length[i]);   \
     }
 #define WITH_OUTPUT(f, pages)                                         \
     static uint64_t call_##f(int i)                                   \
@@ -89,10 +96,14 @@ WITH_PAGE(wom_filled_capacity, wom_page_capacity, filled)
 WITH_PAGE(plain_filled_capacity, plain_page_capacity, filled)
 WITH_PAGE(wom_fill_page, wom_fill_page, first)
 WITH_PAGE(plain_fill_page, plain_fill_page, first)
-WITH_RECORD(wom_write_second)
-WITH_RECORD(plain_write_second)
+WITH_RECORD(wom_write_second, filled, record)
+WITH_RECORD(plain_write_second, filled, record)
 WITH_OUTPUT(wom_read_second, second)
 WITH_OUTPUT(plain_read_second, second)
+WITH_RECORD(wom_write_inspect, first, sparse)
+WITH_RECORD(plain_write_inspect, first, sparse)
+WITH_OUTPUT(wom_read_inspect, inspect)
+WITH_OUTPUT(plain_read_inspect, inspect)
 
 /* Page capacity stands here twice: of a first-round page, and under the name
  * filled_capacity of a filled page. */
@@ -112,6 +123,10 @@ static const struct operation operations[] = {
     {"plain_write_second", call_plain_write_second, MOST_ROOM},
     {"wom_read_second", call_wom_read_second, SHORT_RECORD},
     {"plain_read_second", call_plain_read_second, SHORT_RECORD},
+    {"wom_write_inspect", call_wom_write_inspect, MOST_ROOM},
+    {"plain_write_inspect", call_plain_write_inspect, MOST_ROOM},
+    {"wom_read_inspect", call_wom_read_inspect, MOST_ROOM},
+    {"plain_read_inspect", call_plain_read_inspect, MOST_ROOM},
 };
 
 #define OPERATIONS ((int)(sizeof operations / sizeof operations[0]))
@@ -124,10 +139,12 @@ enum {
     FILLED_CAPACITY = 7,
     FILL_PAGE = 9,
     WRITE_SECOND = 11,
-    READ_SECOND = 13
+    READ_SECOND = 13,
+    WRITE_INSPECT = 15,
+    READ_INSPECT = 17
 };
 
-/* Page 0, with one of its bytes put to another value, or its record made
+/* Page 0, with one of its bytes put to another value, or its records made
  * longer, so that an operation refuses it by a number. */
 static const struct refused {
     int operation;
@@ -161,6 +178,17 @@ static const struct refused {
     {READ_SECOND, 3, 0x00, 0, 7},
     {READ_SECOND, 1, 0, 0, 9},   /* spare data cells are set */
     {READ_SECOND, 1, 126, 0, 9}, /* too few data cells */
+    {WRITE_INSPECT, 0, 0x03, 0, 5},
+    {WRITE_INSPECT, 1, 0x01, 0, 6},
+    {WRITE_INSPECT, 2, 0x80, 0, 6},
+    {WRITE_INSPECT, 128, 0xff, 0, 7},
+    {WRITE_INSPECT, 0, 0x01, 1, 8},
+    {READ_INSPECT, 0, 0x07, 0, 5},
+    {READ_INSPECT, 1, 248, 0, 6},
+    {READ_INSPECT, 2, 0x01, 0, 6},
+    {READ_INSPECT, 3, 0xaa, 0, 7}, /* the sum */
+    {READ_INSPECT, 1, 0, 0, 7},    /* a pair 11 that is not read */
+    {READ_INSPECT, 1, 247, 0, 9},
 };
 
 static void fill_at_random(uint8_t *bytes, size_t length, uint64_t *state)
@@ -170,6 +198,17 @@ static void fill_at_random(uint8_t *bytes, size_t length, uint64_t *state)
     for (i = 0; i < length; i++) {
         *state = next_state(*state);
         bytes[i] = (uint8_t)(*state >> 56);
+    }
+}
+
+/* Each bit is 1 with a probability of one tenth. */
+static void fill_sparsely(uint8_t *bytes, size_t length, uint64_t *state)
+{
+    size_t i;
+
+    for (i = 0; i < 8 * length; i++) {
+        *state = next_state(*state);
+        bytes[i / 8] |= (uint8_t)(((*state >> 32) % 10 == 0) << i % 8);
     }
 }
 
@@ -199,18 +238,37 @@ static void make_page(int i, size_t longest, uint64_t *state)
                        record_length[i]);
 }
 
+/* Page i in its second round by the Inspect code: the record is cut to the
+ * longest that fits, which plain C says where it refuses the whole. */
+static void make_inspect(int i)
+{
+    uint64_t fits;
+
+    memcpy(inspect[i], first[i], sizeof inspect[i]);
+    fits = plain_write_inspect(inspect[i], sizeof inspect[i], sparse[i],
+                               sizeof sparse[i]);
+    sparse_length[i] = (size_t)wom_index(fits) / 8;
+    plain_write_inspect(inspect[i], sizeof inspect[i], sparse[i],
+                        sparse_length[i]);
+}
+
 static void make_pages(void)
 {
     uint64_t state = 1;
+    uint64_t sparse_state = 2;
     int i;
 
     for (i = 0; i < COUNT; i++) {
         fill_at_random(data[i], sizeof data[i], &state);
         make_page(i, WOM_SECOND_BYTES_MAX, &state);
+        fill_sparsely(sparse[i], sizeof sparse[i], &sparse_state);
+        make_inspect(i);
     }
     for (; i < ACCEPTED; i++) {
         put_values(data[i], worst[i - COUNT].value);
         make_page(i, worst[i - COUNT].longest, &state);
+        memset(sparse[i], 0xff, sizeof sparse[i]);
+        make_inspect(i);
     }
 }
 
@@ -224,13 +282,17 @@ static void make_refused(void)
         memcpy(data[i], data[0], sizeof data[i]);
         memcpy(record[i], record[0], sizeof record[i]);
         record_length[i] = record_length[0] + row->longer;
+        memcpy(sparse[i], sparse[0], sizeof sparse[i]);
+        sparse_length[i] = sparse_length[0] + row->longer;
         memcpy(first[i], first[0], sizeof first[i]);
         memcpy(filled[i], filled[0], sizeof filled[i]);
         memcpy(second[i], second[0], sizeof second[i]);
+        memcpy(inspect[i], inspect[0], sizeof inspect[i]);
         blank[i][row->byte] = row->value;
         first[i][row->byte] = row->value;
         filled[i][row->byte] = row->value;
         second[i][row->byte] = row->value;
+        inspect[i][row->byte] = row->value;
     }
 }
 
@@ -241,6 +303,7 @@ struct left {
     uint8_t out[sizeof out];
     uint8_t data[sizeof data[0]];
     uint8_t record[sizeof record[0]];
+    uint8_t sparse[sizeof sparse[0]];
 };
 
 static void take_buffers(struct left *left, int i)
@@ -249,6 +312,7 @@ static void take_buffers(struct left *left, int i)
     memcpy(left->out, out, sizeof out);
     memcpy(left->data, data[i], sizeof data[i]);
     memcpy(left->record, record[i], sizeof record[i]);
+    memcpy(left->sparse, sparse[i], sizeof sparse[i]);
 }
 
 static void make_call(struct left *left, int k, int i)
@@ -274,6 +338,7 @@ static void compare_call(const char *kind, int k, int i, unsigned number)
     check_bytes("out", library.out, plain.out, sizeof plain.out);
     check_bytes("data", library.data, before.data, sizeof before.data);
     check_bytes("record", library.record, before.record, sizeof before.record);
+    check_bytes("sparse", library.sparse, before.sparse, sizeof before.sparse);
 }
 
 static void compare_pages(int k)

@@ -2,12 +2,17 @@
  * The annex's bounds, as the library answers them: the capacity of the page of
  * 44 times the value 3889371024 and of the page of 176 zero bytes, the length
  * of the longest record that each accepts once it is filled, and the pulses of
- * its fill. Prints these six numbers:
+ * its fill. By the Inspect code, over the page of 176 zero bytes: how many bits
+ * go in of a record of ones and of one of zeros that are too long, and the
+ * length of the longest of each that is accepted. Prints these ten numbers, the
+ * Inspect code's in the second line:
  *
  *     least greatest sure longest fewest most
+ *     least greatest sure longest
  *
- * Exit status 1 when a first writing, a fill or a measurement is refused, or a
- * filled page has another capacity than the page had before.
+ * Exit status 1 when a first writing, a fill or a measurement is refused, a
+ * filled page has another capacity than the page had before, or the record that
+ * is too long is not refused by 8.
  */
 #include <inttypes.h>
 #include <stdint.h>
@@ -17,7 +22,10 @@
 
 #include "wom.h"
 
-#define TOO_LONG 200 /* bytes; more than any page takes */
+#define TOO_LONG 300 /* bytes; more than any page takes */
+
+typedef uint64_t writer(uint8_t *page, size_t page_length,
+                        const uint8_t *record, size_t record_length);
 
 static uint64_t accepted(uint64_t answer)
 {
@@ -55,26 +63,39 @@ static uint64_t fill(uint8_t *page, uint64_t *pulses)
     return capacity;
 }
 
-static int takes(const uint8_t *filled_page, size_t length)
+/* The answer to a record of equal bytes, over a copy of the page. */
+static uint64_t answer(writer *write, const uint8_t *page, uint8_t byte,
+                       size_t length)
 {
-    static const uint8_t record[TOO_LONG] = {0};
-    uint8_t page[WOM_PAGE_BYTES];
+    uint8_t copy[WOM_PAGE_BYTES];
+    uint8_t record[TOO_LONG];
 
-    memcpy(page, filled_page, sizeof page);
-    return wom_refusal(wom_write_second(page, sizeof page, record, length)) ==
-           0;
+    memcpy(copy, page, sizeof copy);
+    memset(record, byte, sizeof record);
+    return write(copy, sizeof copy, record, length);
 }
 
-static size_t longest(const uint8_t *filled_page)
+static size_t longest(writer *write, const uint8_t *page, uint8_t byte)
 {
     size_t length = TOO_LONG;
 
-    while (length > 0 && !takes(filled_page, length))
+    while (length > 0 && wom_refusal(answer(write, page, byte, length)) != 0)
         length--;
     return length;
 }
 
-int main(void)
+/* How many bits of a record of equal bytes go in by the Inspect code. */
+static uint64_t go_in(const uint8_t *page, uint8_t byte)
+{
+    uint64_t refused = answer(wom_write_inspect, page, byte, TOO_LONG);
+
+    if (wom_refusal(refused) == WOM_REFUSED_RECORD_LENGTH)
+        return wom_index(refused);
+    fprintf(stderr, "bounds: %d bytes were not refused by 8\n", TOO_LONG);
+    exit(1);
+}
+
+static void print_fill_code(void)
 {
     uint8_t least[WOM_PAGE_BYTES];
     uint8_t greatest[WOM_PAGE_BYTES];
@@ -86,7 +107,23 @@ int main(void)
     least_bits = fill(least, &fewest);
     greatest_bits = fill(greatest, &most);
     printf("%" PRIu64 " %" PRIu64 " %zu %zu %" PRIu64 " %" PRIu64 "\n",
-           least_bits, greatest_bits, longest(least), longest(greatest), fewest,
-           most);
+           least_bits, greatest_bits, longest(wom_write_second, least, 0),
+           longest(wom_write_second, greatest, 0), fewest, most);
+}
+
+static void print_inspect_code(void)
+{
+    uint8_t page[WOM_PAGE_BYTES];
+
+    make_page(page, 0);
+    printf("%" PRIu64 " %" PRIu64 " %zu %zu\n", go_in(page, 0xff),
+           go_in(page, 0), longest(wom_write_inspect, page, 0xff),
+           longest(wom_write_inspect, page, 0));
+}
+
+int main(void)
+{
+    print_fill_code();
+    print_inspect_code();
     return 0;
 }

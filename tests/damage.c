@@ -1,11 +1,12 @@
 /*
  * How much the readers notice of damage to one cell, counted: on 100 pages of
- * seeded random records every single cell is changed, a set one lost or a clear
- * one gained, and both readers are asked. Either both refuse the page, or one
- * reads the same record, or one reads another.
+ * seeded random records, and on 100 further ones for the Inspect code, every
+ * single cell is changed, a set one lost or a clear one gained, and all three
+ * readers are asked. Either all refuse the page, or one reads the same record,
+ * or one reads another.
  *
  * A filled page holds no record: a reader that accepts it reads another one.
- * Where both refuse, a record of 82 bytes is written over the page. Either this
+ * Where all refuse, a record of 82 bytes is written over the page. Either this
  * is refused as well, or the record is read back from what it leaves.
  *
  *     damage          prints the rows of the annex's table, then how many of
@@ -34,7 +35,7 @@
 /* ---- Records ----------------------------------------------------------- */
 
 struct record {
-    uint8_t bytes[WOM_FIRST_BYTES]; /* the longest of either round */
+    uint8_t bytes[WOM_INSPECT_BYTES_MAX]; /* the longest of all */
     size_t length;
 };
 
@@ -75,15 +76,23 @@ static uint8_t check_byte(const struct record *record, size_t i)
                      8 * i);
 }
 
-static void make_record(struct record *record, size_t length)
+/* Cuts the record to that length, and puts its check value to its end. */
+static void cut_record(struct record *record, size_t length)
 {
     size_t i;
 
     record->length = length;
-    for (i = 0; i < length; i++)
-        record->bytes[i] = random_byte();
     for (i = 0; length >= CHECK_BYTES && i < CHECK_BYTES; i++)
         record->bytes[length - CHECK_BYTES + i] = check_byte(record, i);
+}
+
+static void make_record(struct record *record, size_t length)
+{
+    size_t i;
+
+    for (i = 0; i < length; i++)
+        record->bytes[i] = random_byte();
+    cut_record(record, length);
 }
 
 static int check_value_right(const struct record *record)
@@ -115,22 +124,35 @@ static void must_be_accepted(uint64_t answer)
     exit(1);
 }
 
+#define READERS 3
+
+static const struct {
+    uint64_t (*read)(const uint8_t *page, size_t page_length, uint8_t *out,
+                     size_t out_length);
+    size_t length; /* of the record, where the answer is 0 instead */
+} readers[READERS] = {
+    {wom_read_first, WOM_FIRST_BYTES},
+    {wom_read_second, 0},
+    {wom_read_inspect, 0},
+};
+
 /* True when one of the readers accepts the page; its record is then given. */
 static int read_page(const uint8_t *page, struct record *out)
 {
-    uint64_t answer = wom_read_first(page, WOM_PAGE_BYTES, out->bytes,
-                                     sizeof out->bytes);
+    int i;
 
-    out->length = WOM_FIRST_BYTES;
-    if (wom_refusal(answer) == 0)
-        return 1;
-    answer = wom_read_second(page, WOM_PAGE_BYTES, out->bytes,
-                             sizeof out->bytes);
-    out->length = (size_t)wom_result(answer);
-    return wom_refusal(answer) == 0;
+    for (i = 0; i < READERS; i++) {
+        uint64_t answer = readers[i].read(page, WOM_PAGE_BYTES, out->bytes,
+                                          sizeof out->bytes);
+
+        out->length = readers[i].length + (size_t)wom_result(answer);
+        if (wom_refusal(answer) == 0)
+            return 1;
+    }
+    return 0;
 }
 
-/* The same of a filled page, which is written where both readers refuse it. */
+/* The same of a filled page, which is written where all readers refuse it. */
 static int write_and_read_page(const uint8_t *filled_page,
                                const struct record *record, struct record *out)
 {
@@ -160,9 +182,13 @@ struct counts {
     unsigned long another;
 };
 
+typedef uint64_t writer(uint8_t *page, size_t page_length,
+                        const uint8_t *record, size_t record_length);
+
 struct row {
     const char *page;
-    int filled; /* true: the pages are filled, and are written */
+    int filled;    /* true: the pages are filled, and are written */
+    writer *write; /* of the second record, before the damage */
     struct counts counts[CHANGES];
 };
 
@@ -176,19 +202,32 @@ enum {
     FIRST_HEADER,
     FILLED_HEADER,
     SECOND_HEADER,
+    INSPECT_0,
+    INSPECT_40,
+    INSPECT_126,
+    INSPECT_LONGEST,
+    INSPECT_HEADER,
     ROWS
 };
+
+#define SECOND .write = wom_write_second
+#define INSPECT .write = wom_write_inspect
 
 static struct row rows[ROWS] = {
     [FIRST] = {.page = "first round"},
     [FILLED] = {.page = "filled, then 82 bytes", .filled = 1},
-    [SECOND_0] = {.page = "second round, no byte"},
-    [SECOND_40] = {.page = "second round, 40 bytes"},
-    [SECOND_82] = {.page = "second round, 82 bytes"},
-    [SECOND_LONGEST] = {.page = "second round, longest that fits"},
+    [SECOND_0] = {.page = "second round, no byte", SECOND},
+    [SECOND_40] = {.page = "second round, 40 bytes", SECOND},
+    [SECOND_82] = {.page = "second round, 82 bytes", SECOND},
+    [SECOND_LONGEST] = {.page = "second round, longest that fits", SECOND},
     [FIRST_HEADER] = {.page = "first round, header"},
     [FILLED_HEADER] = {.page = "filled, header", .filled = 1},
-    [SECOND_HEADER] = {.page = "second round, 82 bytes, header"},
+    [SECOND_HEADER] = {.page = "second round, 82 bytes, header", SECOND},
+    [INSPECT_0] = {.page = "Inspect code, no byte", INSPECT},
+    [INSPECT_40] = {.page = "Inspect code, 40 bytes", INSPECT},
+    [INSPECT_126] = {.page = "Inspect code, 126 bytes", INSPECT},
+    [INSPECT_LONGEST] = {.page = "Inspect code, longest that fits", INSPECT},
+    [INSPECT_HEADER] = {.page = "Inspect code, 126 bytes, header", INSPECT},
 };
 
 static unsigned long others_passed; /* other records, check value right */
@@ -228,15 +267,24 @@ static void damage(struct row *row, uint8_t *page, const struct record *record,
     }
 }
 
-static void damage_second(struct row *row, const uint8_t *filled_page,
+/* The same of a copy of the page with the record written over it. */
+static void damage_second(struct row *row, const uint8_t *first_page,
                           const struct record *record, int from, int to)
 {
     uint8_t page[WOM_PAGE_BYTES];
 
-    memcpy(page, filled_page, sizeof page);
+    memcpy(page, first_page, sizeof page);
     must_be_accepted(
-        wom_write_second(page, sizeof page, record->bytes, record->length));
+        row->write(page, sizeof page, record->bytes, record->length));
     damage(row, page, record, from, to);
+}
+
+/* Writes the first record on the page, which is blank. */
+static void make_page(uint8_t *page, struct record *record)
+{
+    make_record(record, WOM_FIRST_BYTES);
+    must_be_accepted(
+        wom_write_first(page, WOM_PAGE_BYTES, record->bytes, record->length));
 }
 
 /* The page with its first record. The number of bits that it takes. */
@@ -245,9 +293,7 @@ static uint64_t damage_first(uint8_t *page)
     struct record record;
     uint64_t capacity;
 
-    make_record(&record, WOM_FIRST_BYTES);
-    must_be_accepted(
-        wom_write_first(page, WOM_PAGE_BYTES, record.bytes, record.length));
+    make_page(page, &record);
     capacity = wom_page_capacity(page, WOM_PAGE_BYTES);
     must_be_accepted(capacity);
     damage(&rows[FIRST], page, &record, HEADER_BITS, PAGE_BITS);
@@ -273,6 +319,40 @@ static void damage_one_page(void)
     damage_second(&rows[SECOND_HEADER], page, &record, 0, HEADER_BITS);
     make_record(&record, (size_t)capacity / 8);
     damage_second(&rows[SECOND_LONGEST], page, &record, HEADER_BITS, PAGE_BITS);
+}
+
+static int fits_inspect(const uint8_t *first_page, const struct record *record)
+{
+    uint8_t page[WOM_PAGE_BYTES];
+
+    memcpy(page, first_page, sizeof page);
+    return wom_refusal(wom_write_inspect(page, sizeof page, record->bytes,
+                                         record->length)) == 0;
+}
+
+static void make_longest(struct record *record, const uint8_t *first_page)
+{
+    make_record(record, WOM_INSPECT_BYTES_MAX);
+    while (!fits_inspect(first_page, record))
+        cut_record(record, record->length - 1);
+}
+
+static void damage_inspect_page(void)
+{
+    uint8_t page[WOM_PAGE_BYTES] = {0};
+    struct record record;
+
+    make_page(page, &record);
+    make_record(&record, 0);
+    damage_second(&rows[INSPECT_0], page, &record, HEADER_BITS, PAGE_BITS);
+    make_record(&record, 40);
+    damage_second(&rows[INSPECT_40], page, &record, HEADER_BITS, PAGE_BITS);
+    make_record(&record, 126);
+    damage_second(&rows[INSPECT_126], page, &record, HEADER_BITS, PAGE_BITS);
+    damage_second(&rows[INSPECT_HEADER], page, &record, 0, HEADER_BITS);
+    make_longest(&record, page);
+    damage_second(&rows[INSPECT_LONGEST], page, &record, HEADER_BITS,
+                  PAGE_BITS);
 }
 
 /* ---- The table --------------------------------------------------------- */
@@ -338,7 +418,7 @@ static unsigned long print_rows(void)
 
         print_counts(rows[i].page, "lost", &rows[i].counts[LOST]);
         print_counts(rows[i].page, "gained", &rows[i].counts[GAINED]);
-        if (i == SECOND_82)
+        if (i == SECOND_82 || i == INSPECT_126)
             print_counts(rows[i].page, "either", &sum);
         another += sum.another;
     }
@@ -357,6 +437,8 @@ int main(int argc, char **argv)
     random_state = argc == 2 ? strtoull(argv[1], NULL, 10) : 1;
     for (i = 0; i < PAGES; i++)
         damage_one_page();
+    for (i = 0; i < PAGES; i++)
+        damage_inspect_page();
     another = print_rows();
     printf("other records read: ");
     print_number(another);

@@ -1,8 +1,8 @@
 /*
- * Test of wom.h: its constants and functions, and ten of its eleven entries,
- * each on document 01's values and on calls that it refuses by each of its
- * numbers. Every expectation is a literal. The pulses of a page's fill are
- * compared with the cells, counted before and after it, as well. The eleventh
+ * Test of wom.h: its constants and functions, and twelve of its thirteen
+ * entries, each on document 01's values and on calls that it refuses by each of
+ * its numbers. Every expectation is a literal. The pulses of a page's fill are
+ * compared with the cells, counted before and after it, as well. The thirteenth
  * entry, wom_write_file, is tested by file.c.
  *
  *     header               all checks; exit status 0 when none is wrong, else 1
@@ -20,6 +20,7 @@
  *        refusal        a refusal by a page entry
  *        page-kept      the page of a refused call
  *        other-kept     the data, record or output of a refused call
+ *        cleared        the cells of the page that a call clears
  *        pulses         the pulses of a page's fill, answered and counted
  */
 #include <string.h>
@@ -62,16 +63,19 @@ static const struct {
     CONSTANT(WOM_FIRST_BYTES, 176),
     CONSTANT(WOM_SECOND_BYTES_MAX, 126),
     CONSTANT(WOM_SECOND_BYTES_SURE, 82),
+    CONSTANT(WOM_INSPECT_BYTES_MAX, 247),
+    CONSTANT(WOM_INSPECT_BYTES_SURE, 126),
     CONSTANT(WOM_STATE_BLANK, 0),
     CONSTANT(WOM_STATE_FIRST, 1),
     CONSTANT(WOM_STATE_FILLED, 3),
     CONSTANT(WOM_STATE_SECOND, 7),
+    CONSTANT(WOM_STATE_INSPECT, 9),
     CONSTANT(WOM_FILE_PAGES_MAX, 64),
     CONSTANT(WOM_FILE_BYTES(0), 12),
     CONSTANT(WOM_FILE_BYTES(1), 271),
     CONSTANT(WOM_FILE_BYTES(1 + 1), 530),
     CONSTANT(sizeof(uint8_t[WOM_FILE_BYTES(WOM_FILE_PAGES_MAX)]), 16588),
-    CONSTANT(WOM_VERSION, 40000),
+    CONSTANT(WOM_VERSION, 50000),
 };
 
 static void check_constants(void)
@@ -121,7 +125,7 @@ static void check_texts(void)
         check_text(wom_refusal_name(texts[i].number), texts[i].expected);
     }
     in_case("WOM_VERSION_STRING", WOM_VERSION);
-    check_text(WOM_VERSION_STRING, "4.0.0");
+    check_text(WOM_VERSION_STRING, "5.0.0");
 }
 
 static const struct {
@@ -135,6 +139,7 @@ static const struct {
     {UINT64_C(0x0100000000000000), 1, 0},
     {UINT64_C(0x070000000000002b), 7, 43},
     {UINT64_C(0x08000000000003f4), 8, 1012},
+    {UINT64_C(0x08000000000007bc), 8, 1980},
     {UINT64_C(0x0d00000000000000), 13, 0},
     {UINT64_C(0x8000000000000000), 128, 0},
     {UINT64_MAX, 255, UINT64_C(0x00ffffffffffffff)},
@@ -420,8 +425,41 @@ static const struct page threes_ones_earlier = {
     {0xff, 0xf7},
 };
 
+/* 176 zero bytes, and over them by the Inspect code: no record, one zero byte,
+ * 247 of them, the byte 00000001, whose pair goes into the page's next byte,
+ * the same where cell 9 is set, the byte 10010110, 126 bytes of ones, of which
+ * the last word takes 19. */
+static const struct page zeros_inspect_none = {{0x09}, {0}, {0}};
+static const struct page zeros_inspect_zero = {{0x09, 1}, {0}, {0}};
+static const struct page zeros_inspect_zeros = {{0x09, 247}, {0}, {0}};
+static const struct page zeros_inspect_one = {
+    {0x09, 1, 0, 0x01, 0x80}, {0}, {0},
+};
+static const struct page zeros_inspect_one_9 = {
+    {0x09, 1, 0, 0x01, 0xc0}, {0}, {0},
+};
+static const struct page zeros_inspect_byte = {
+    {0x09, 1, 0, 0xcd, 0xe0}, {0}, {0},
+};
+static const struct page zeros_inspect_ones = {
+    {0x09, 126, 0, 0xff, 0xff}, {TIMES_23(0xff)}, {0xff, 0x00},
+};
+
+/* 44 times 3889371024, and over it by the Inspect code: the byte 10010110, 165
+ * zero bytes, which leave each word as it is, 126 bytes of ones. */
+static const struct page least_inspect_byte = {
+    {0x09, 1, 0, 0xd6, 0xf9}, {LEAST_WORDS}, {0x92, 0x49},
+};
+static const struct page least_inspect_zeros = {
+    {0x09, 165, 0, 0x92, 0x49}, {LEAST_WORDS}, {0x92, 0x49},
+};
+static const struct page least_inspect_ones = {
+    {0x09, 126, 0, 0xff, 0xff}, {TIMES_23(0xff)}, {0xff, 0x49},
+};
+
 /* Sixteen bytes, which repeat themselves. */
 static const uint8_t zeros[16] = {0};
+static const uint8_t one[16] = {TIMES_16(0x01)};
 static const uint8_t ones[16] = {TIMES_16(0xff)};
 static const uint8_t byte[16] = {TIMES_16(0x96)};
 static const uint8_t nines[16] = {TIMES_16(0x99)};
@@ -433,7 +471,7 @@ static const uint8_t mixed[16] = {
     0, 0, 0, 1, 0, 0, 0, 77, 0, 0, 0, 243, 0xe7, 0xd3, 0x17, 0x90,
 };
 
-#define ROOM 512 /* bytes for a page or another buffer, and bytes after it */
+#define ROOM 4112 /* bytes for a page or another buffer, and bytes after it */
 
 static void lay_page(uint8_t bytes[ROOM], const struct page *page)
 {
@@ -463,12 +501,15 @@ enum entry {
     PAGE_CAPACITY,
     FILL_PAGE,
     WRITE_SECOND,
-    READ_SECOND
+    READ_SECOND,
+    WRITE_INSPECT,
+    READ_INSPECT
 };
 
 static const char *const names[] = {
     "wom_write_first", "wom_read_first", "wom_page_capacity", "wom_fill_page",
-    "wom_write_second", "wom_read_second",
+    "wom_write_second", "wom_read_second", "wom_write_inspect",
+    "wom_read_inspect",
 };
 
 /* The other buffer is the data, the record or the output; page capacity and
@@ -489,9 +530,52 @@ static uint64_t call(enum entry entry, uint8_t *page, size_t page_length,
         return wom_fill_page(page, page_length);
     case WRITE_SECOND:
         return wom_write_second(page, page_length, other, other_length);
-    default:
+    case READ_SECOND:
         return wom_read_second(page, page_length, other, other_length);
+    case WRITE_INSPECT:
+        return wom_write_inspect(page, page_length, other, other_length);
+    default:
+        return wom_read_inspect(page, page_length, other, other_length);
     }
+}
+
+/* A call: its buffers, what it must answer, and what it must leave in them. */
+struct trial {
+    enum entry entry;
+    uint8_t page[ROOM];
+    size_t page_length;
+    uint8_t other[ROOM];
+    size_t length; /* of the other buffer */
+    uint64_t answer;
+    uint8_t page_left[ROOM];
+    uint8_t other_left[ROOM];
+};
+
+static uint64_t cleared_cells(const uint8_t *before, const uint8_t *after)
+{
+    uint64_t count = 0;
+    int i;
+
+    for (i = 0; i < 8 * 256; i++)
+        count += (before[i / 8] & ~after[i / 8]) >> i % 8 & 1;
+    return count;
+}
+
+static void check_trial(struct trial *trial)
+{
+    int refused = wom_refusal(trial->answer) != 0;
+    uint8_t before[ROOM];
+    uint64_t answer;
+
+    memcpy(before, trial->page, ROOM);
+    answer = call(trial->entry, trial->page, trial->page_length, trial->other,
+                  trial->length);
+    check_number(refused ? "refusal" : "answer", answer, trial->answer);
+    check_bytes(refused ? "page-kept" : "page", trial->page, trial->page_left,
+                ROOM);
+    check_bytes(refused ? "other-kept" : "other", trial->other,
+                trial->other_left, ROOM);
+    check_number("cleared", cleared_cells(before, trial->page), 0);
 }
 
 /* The page and the other buffer with its length; the result, the page
@@ -553,24 +637,55 @@ static const struct accepted {
     {READ_SECOND, &threes_ones, nines, 121, 121, &threes_ones, ones, 121},
     {READ_SECOND, &threes_ones_earlier, nines, 300, 121, &threes_ones_earlier,
      ones, 121},
+
+    {WRITE_INSPECT, &zeros_first, zeros, 0, 0, &zeros_inspect_none, zeros, 0},
+    {WRITE_INSPECT, &zeros_first, zeros, 1, 0, &zeros_inspect_zero, zeros, 0},
+    {WRITE_INSPECT, &zeros_first, zeros, 247, 0, &zeros_inspect_zeros, zeros,
+     0},
+    {WRITE_INSPECT, &zeros_first, one, 1, 0, &zeros_inspect_one, zeros, 0},
+    {WRITE_INSPECT, &zeros_first, byte, 1, 0, &zeros_inspect_byte, zeros, 0},
+    {WRITE_INSPECT, &zeros_first, ones, 126, 0, &zeros_inspect_ones, zeros, 0},
+    {WRITE_INSPECT, &least_first, byte, 1, 0, &least_inspect_byte, zeros, 0},
+    {WRITE_INSPECT, &least_first, zeros, 165, 0, &least_inspect_zeros, zeros,
+     0},
+    {WRITE_INSPECT, &least_first, ones, 126, 0, &least_inspect_ones, zeros, 0},
+
+    {READ_INSPECT, &zeros_inspect_none, nines, 0, 0, &zeros_inspect_none, zeros,
+     0},
+    {READ_INSPECT, &zeros_inspect_none, nines, 1, 0, &zeros_inspect_none, zeros,
+     0},
+    {READ_INSPECT, &zeros_inspect_zero, nines, 1, 1, &zeros_inspect_zero, zeros,
+     1},
+    {READ_INSPECT, &zeros_inspect_zeros, nines, 247, 247, &zeros_inspect_zeros,
+     zeros, 247},
+    {READ_INSPECT, &zeros_inspect_one, nines, 2, 1, &zeros_inspect_one, one, 1},
+    {READ_INSPECT, &zeros_inspect_one_9, nines, 2, 1, &zeros_inspect_one_9, one,
+     1},
+    {READ_INSPECT, &zeros_inspect_byte, nines, 2, 1, &zeros_inspect_byte, byte,
+     1},
+    {READ_INSPECT, &zeros_inspect_ones, nines, 126, 126, &zeros_inspect_ones,
+     ones, 126},
+    {READ_INSPECT, &least_inspect_byte, nines, 1, 1, &least_inspect_byte, byte,
+     1},
+    {READ_INSPECT, &least_inspect_zeros, nines, 166, 165, &least_inspect_zeros,
+     zeros, 165},
+    {READ_INSPECT, &least_inspect_ones, nines, 4096, 126, &least_inspect_ones,
+     ones, 126},
 };
 
 static void check_accepted_call(const struct accepted *row)
 {
-    uint8_t page[ROOM], page_left[ROOM];
-    uint8_t other[ROOM], other_left[ROOM];
-    uint64_t answer;
+    struct trial trial = {.entry = row->entry,
+                          .page_length = 256,
+                          .length = row->length,
+                          .answer = row->result};
 
-    lay_page(page, row->page);
-    lay_page(page_left, row->page_left);
-    lay_record(other, row->other, ROOM);
-    lay_record(other_left, row->other, ROOM);
-    lay_record(other_left, row->put, row->put_length);
-
-    answer = call(row->entry, page, 256, other, row->length);
-    check_number("answer", answer, row->result);
-    check_bytes("page", page, page_left, ROOM);
-    check_bytes("other", other, other_left, ROOM);
+    lay_page(trial.page, row->page);
+    lay_page(trial.page_left, row->page_left);
+    lay_record(trial.other, row->other, ROOM);
+    lay_record(trial.other_left, row->other, ROOM);
+    lay_record(trial.other_left, row->put, row->put_length);
+    check_trial(&trial);
 }
 
 static void check_accepted(void)
@@ -610,6 +725,7 @@ static const struct refused {
     {READ_FIRST, &zeros_first, 255, 0, 0x01, 176, 1, 0},
     {READ_FIRST, &zeros_first, 256, 0, 0x07, 176, 5, 0},
     {READ_FIRST, &zeros_filled, 256, 0, 0x03, 176, 5, 0},
+    {READ_FIRST, &zeros_inspect_none, 256, 0, 0x09, 176, 5, 0},
     {READ_FIRST, &zeros_first, 256, 1, 0x01, 176, 6, 0},
     {READ_FIRST, &zeros_first, 256, 2, 0x80, 176, 6, 0},
     {READ_FIRST, &zeros_first, 256, 3, 0xc0, 176, 7, 0}, /* cells 0 and 1 */
@@ -624,6 +740,7 @@ static const struct refused {
     {PAGE_CAPACITY, &zeros_first, 256, 0, 0x00, 0, 5, 0},
     {PAGE_CAPACITY, &zeros_first, 256, 0, 0x02, 0, 5, 0},
     {PAGE_CAPACITY, &zeros_none, 256, 0, 0x07, 0, 5, 0},
+    {PAGE_CAPACITY, &zeros_inspect_none, 256, 0, 0x09, 0, 5, 0},
     {PAGE_CAPACITY, &zeros_first, 256, 1, 0x80, 0, 6, 0},
     {PAGE_CAPACITY, &zeros_first, 256, 2, 0x01, 0, 6, 0},
     {PAGE_CAPACITY, &zeros_first, 256, 8, 0x03, 0, 7, 1},
@@ -648,6 +765,7 @@ static const struct refused {
     {FILL_PAGE, &zeros_first, 256, 0, 0x81, 0, 5, 0},
     {FILL_PAGE, &zeros_filled, 256, 0, 0x03, 0, 5, 0},
     {FILL_PAGE, &least_filled, 256, 0, 0x03, 0, 5, 0},
+    {FILL_PAGE, &zeros_inspect_none, 256, 0, 0x09, 0, 5, 0},
     {FILL_PAGE, &zeros_first, 256, 1, 0x01, 0, 6, 0},
     {FILL_PAGE, &zeros_first, 256, 2, 0x80, 0, 6, 0},
     {FILL_PAGE, &zeros_first, 256, 3, 0xc0, 0, 7, 0}, /* cells 0 and 1 */
@@ -666,6 +784,8 @@ static const struct refused {
     {WRITE_SECOND, &zeros_filled, 256, 0, 0x07, 127, 5, 0},
     {WRITE_SECOND, &mixed_first, 256, 0, 0x01, 1, 5, 0},
     {WRITE_SECOND, &zeros_ones, 256, 0, 0x07, 1, 5, 0},
+    {WRITE_SECOND, &zeros_inspect_none, 256, 0, 0x09, 1, 5, 0},
+    {WRITE_SECOND, &zeros_filled, 256, 0, 0x09, 1, 5, 0},
     {WRITE_SECOND, &zeros_filled, 256, 1, 0x01, 1, 6, 0},
     {WRITE_SECOND, &zeros_filled, 256, 2, 0x01, 127, 6, 0},
     {WRITE_SECOND, &zeros_ones, 256, 0, 0x03, 1, 6, 0},
@@ -689,6 +809,8 @@ static const struct refused {
     {READ_SECOND, &zeros_ones, 257, 0, 0x07, 126, 1, 0},
     {READ_SECOND, &zeros_ones, 256, 0, 0x01, 126, 5, 0},
     {READ_SECOND, &zeros_filled, 256, 0, 0x03, 126, 5, 0},
+    {READ_SECOND, &zeros_inspect_none, 256, 0, 0x09, 126, 5, 0},
+    {READ_SECOND, &zeros_ones, 256, 0, 0x09, 126, 5, 0},
     {READ_SECOND, &zeros_ones, 256, 1, 127, 127, 6, 0},
     {READ_SECOND, &zeros_ones, 256, 2, 0x01, 126, 6, 0},
     {READ_SECOND, &zeros_none, 256, 3, 0x00, 126, 7, 0}, /* room at cell 0 */
@@ -698,24 +820,77 @@ static const struct refused {
     {READ_SECOND, &least_ones, 256, 1, 83, 126, 9, 0}, /* too few data cells */
     {READ_SECOND, &zeros_ones, 256, 0, 0x07, 125, 3, 0},
     {READ_SECOND, &zeros_ones, 256, 0, 0x07, 0, 3, 0},
+
+    {WRITE_INSPECT, &zeros_first, 0, 0, 0x01, 1, 1, 0},
+    {WRITE_INSPECT, &zeros_first, 0, 0, 0x01, 0, 1, 0},
+    {WRITE_INSPECT, &zeros_first, 255, 0, 0x01, 1, 1, 0},
+    {WRITE_INSPECT, &zeros_first, 257, 0, 0x01, 248, 1, 0},
+    {WRITE_INSPECT, &zeros_ones, 255, 0, 0x07, 1, 1, 0},
+    {WRITE_INSPECT, &zeros_first, 256, 0, 0x00, 1, 5, 0},
+    {WRITE_INSPECT, &zeros_first, 256, 0, 0x02, 1, 5, 0},
+    {WRITE_INSPECT, &zeros_first, 256, 0, 0x09, 248, 5, 0},
+    {WRITE_INSPECT, &zeros_first, 256, 0, 0x81, 1, 5, 0},
+    {WRITE_INSPECT, &zeros_filled, 256, 0, 0x03, 1, 5, 0},
+    {WRITE_INSPECT, &zeros_ones, 256, 0, 0x07, 1, 5, 0},
+    {WRITE_INSPECT, &zeros_inspect_none, 256, 0, 0x09, 1, 5, 0},
+    {WRITE_INSPECT, &zeros_inspect_ones, 256, 0, 0x09, 1, 5, 0},
+    {WRITE_INSPECT, &zeros_first, 256, 1, 0x01, 1, 6, 0},
+    {WRITE_INSPECT, &zeros_first, 256, 2, 0x80, 248, 6, 0},
+    {WRITE_INSPECT, &zeros_ones, 256, 0, 0x01, 1, 6, 0},
+    {WRITE_INSPECT, &zeros_first, 256, 3, 0xc0, 1, 7, 0}, /* cells 0 and 1 */
+    {WRITE_INSPECT, &zeros_first, 256, 8, 0x03, 1, 7, 1}, /* cells 0 and 1 */
+    {WRITE_INSPECT, &zeros_first, 256, 255, 0x03, 0, 7, 43}, /* 44 and 45 */
+    {WRITE_INSPECT, &zeros_first, 256, 255, 0x03, 4096, 7, 43},
+    {WRITE_INSPECT, &zeros_filled, 256, 0, 0x01, 1, 7, 0}, /* every even cell */
+
+    {READ_INSPECT, &zeros_inspect_ones, 0, 0, 0x09, 126, 1, 0},
+    {READ_INSPECT, &zeros_inspect_ones, 0, 0, 0x09, 0, 1, 0},
+    {READ_INSPECT, &zeros_inspect_ones, 255, 0, 0x09, 126, 1, 0},
+    {READ_INSPECT, &zeros_ones, 257, 0, 0x07, 126, 1, 0},
+    {READ_INSPECT, &zeros_inspect_ones, 256, 0, 0x01, 126, 5, 0},
+    {READ_INSPECT, &zeros_inspect_ones, 256, 0, 0x08, 126, 5, 0},
+    {READ_INSPECT, &zeros_inspect_ones, 256, 0, 0x0b, 126, 5, 0},
+    {READ_INSPECT, &blank, 256, 0, 0x00, 126, 5, 0},
+    {READ_INSPECT, &zeros_first, 256, 0, 0x01, 126, 5, 0},
+    {READ_INSPECT, &zeros_filled, 256, 0, 0x03, 126, 5, 0},
+    {READ_INSPECT, &zeros_ones, 256, 0, 0x07, 126, 5, 0},
+    {READ_INSPECT, &zeros_none, 256, 1, 248, 248, 5, 0},
+    {READ_INSPECT, &zeros_inspect_zeros, 256, 1, 248, 248, 6, 0},
+    {READ_INSPECT, &zeros_inspect_ones, 256, 1, 255, 255, 6, 0},
+    {READ_INSPECT, &zeros_inspect_none, 256, 2, 0x01, 126, 6, 0},
+    {READ_INSPECT, &zeros_inspect_ones, 256, 2, 0x80, 0, 6, 0},
+    {READ_INSPECT, &zeros_inspect_none, 256, 3, 0xaa, 126, 7, 0}, /* the sum */
+    {READ_INSPECT, &zeros_inspect_zeros, 256, 3, 0xaa, 0, 7, 0}, /* then 9, 3 */
+    {READ_INSPECT, &zeros_inspect_none, 256, 3, 0xc0, 126, 7, 0}, /* not read */
+    {READ_INSPECT, &zeros_inspect_zero, 256, 4, 0xc0, 126, 7, 0}, /* not read */
+    {READ_INSPECT, &zeros_inspect_one, 256, 4, 0xe0, 126, 7, 0}, /* 9 and 10 */
+    {READ_INSPECT, &zeros_inspect_zero, 256, 8, 0x03, 126, 7, 1},
+    {READ_INSPECT, &zeros_inspect_ones, 256, 255, 0x18, 126, 7, 43},
+    {READ_INSPECT, &zeros_inspect_ones, 256, 255, 0x03, 0, 7, 43},
+    {READ_INSPECT, &zeros_inspect_ones, 256, 1, 125, 126, 7, 43},
+    {READ_INSPECT, &zeros_inspect_ones, 256, 1, 0, 126, 7, 0},
+    {READ_INSPECT, &zeros_inspect_ones, 256, 1, 127, 127, 9, 0}, /* 1015 bits */
+    {READ_INSPECT, &zeros_inspect_ones, 256, 1, 247, 247, 9, 0},
+    {READ_INSPECT, &least_inspect_zeros, 256, 1, 166, 166, 9, 0},
+    {READ_INSPECT, &least_inspect_zeros, 256, 1, 166, 0, 9, 0},
+    {READ_INSPECT, &zeros_inspect_one, 256, 0, 0x09, 0, 3, 0},
+    {READ_INSPECT, &zeros_inspect_ones, 256, 0, 0x09, 125, 3, 0},
+    {READ_INSPECT, &zeros_inspect_zeros, 256, 0, 0x09, 246, 3, 0},
 };
 
 static void check_refused_call(const struct refused *row)
 {
-    uint8_t page[ROOM], page_kept[ROOM];
-    uint8_t other[ROOM], other_kept[ROOM];
-    uint64_t answer;
+    struct trial trial = {.entry = row->entry,
+                          .page_length = row->page_length,
+                          .length = row->length,
+                          .answer = REFUSED(row->number, row->index)};
 
-    lay_page(page, row->page);
-    page[row->byte] = row->value;
-    memcpy(page_kept, page, ROOM);
-    lay_record(other, nines, ROOM);
-    memcpy(other_kept, other, ROOM);
-
-    answer = call(row->entry, page, row->page_length, other, row->length);
-    check_number("refusal", answer, REFUSED(row->number, row->index));
-    check_bytes("page-kept", page, page_kept, ROOM);
-    check_bytes("other-kept", other, other_kept, ROOM);
+    lay_page(trial.page, row->page);
+    trial.page[row->byte] = row->value;
+    memcpy(trial.page_left, trial.page, ROOM);
+    lay_record(trial.other, nines, ROOM);
+    memcpy(trial.other_left, trial.other, ROOM);
+    check_trial(&trial);
 }
 
 static void check_refused(void)
@@ -725,6 +900,136 @@ static void check_refused(void)
     for (i = 0; i < COUNT(refused); i++) {
         in_case(names[refused[i].entry], i);
         check_refused_call(&refused[i]);
+    }
+}
+
+/* ---- Walks of the Inspect code ----------------------------------------- */
+
+#define X2(s) s s
+#define X3(s) s s s
+#define X4(s) X2(s) X2(s)
+#define X5(s) X2(s) X3(s)
+#define X9(s) X4(s) X5(s)
+#define X15(s) X5(s) X5(s) X5(s)
+#define X18(s) X9(s) X9(s)
+#define X22(s) X18(s) X4(s)
+#define X23(s) X18(s) X5(s)
+#define X30(s) X15(s) X15(s)
+#define X33(s) X30(s) X3(s)
+#define X36(s) X18(s) X18(s)
+#define X37(s) X36(s) s
+#define X38(s) X36(s) X2(s)
+#define X44(s) X22(s) X22(s)
+#define X45(s) X44(s) s
+#define X46(s) X44(s) X2(s)
+
+/* The cells of each word in the first round; the record's bits that the walk of
+ * each word takes; the cells of each word afterwards, and those of the last
+ * word. The record that fits is as many whole bytes as 44 times the bits are:
+ * where half a byte is left over, the last word takes four bits fewer, and its
+ * later cells are as they were. */
+static const struct walk {
+    const char *first;
+    const char *bits;
+    const char *cells;
+    const char *last;
+} walks[] = {
+    /* the most bits and the fewest */
+    {X46("0"), X45("0"), X46("0"), X46("0")},
+    {X46("0"), X23("1"), X46("1"), X38("1") "00000000"},
+    /* cell 45 remains alone: 0, set, set after a pair 10 */
+    {X46("0"), "0" X22("1"), "0" X44("1") "0", "0" X36("1") "000000000"},
+    {X45("0") "1", "0" X22("1"), "0" X44("1") "1", "0" X36("1") "000000001"},
+    {X23("01"), X23("0"), X23("01"), X23("01")},
+    {X15("100") "1", X30("0"), X15("100") "1", X15("100") "1"},
+    /* ones over 01 and over 10 */
+    {X23("01"), "10101" X18("0"), "11" "0" "11" "10" "11" X18("10") "1",
+     "11" "0" "11" "10" "11" X18("10") "1"},
+    {X37("0") "101000001", X37("0") "01" "0001", X37("0") "10" "11" "00011",
+     X37("0") "10" "11" "00001"},
+    {X33("0") "0100000010010", X33("0") "1" "000000" "1" "00",
+     X33("0") "11" "000000" "11" "010", X33("0") "11" "00000010010"},
+};
+
+/* '0' or '1', over a 0. */
+static void put_bit(uint8_t *bytes, size_t number, char bit)
+{
+    bytes[number / 8] |= (uint8_t)((bit == '1') << (7 - number % 8));
+}
+
+static void lay_cells(uint8_t bytes[ROOM], uint8_t state, size_t length,
+                      const char *cells, const char *last)
+{
+    size_t i;
+
+    memset(bytes, 0x55, ROOM);
+    memset(bytes, 0, 256);
+    bytes[0] = state;
+    bytes[1] = (uint8_t)length;
+    for (i = 0; i < 44 * 46; i++)
+        put_bit(bytes + 3, i, i < 43 * 46 ? cells[i % 46] : last[i % 46]);
+}
+
+/* The same bits over and over. */
+static void lay_bits(uint8_t *bytes, size_t length, const char *bits)
+{
+    size_t i;
+
+    memset(bytes, 0, length);
+    for (i = 0; i < 8 * length; i++)
+        put_bit(bytes, i, bits[i % strlen(bits)]);
+}
+
+static size_t fits(const struct walk *row)
+{
+    return 44 * strlen(row->bits) / 8;
+}
+
+/* A record of that length, which is refused where it does not fit. */
+static void check_written(const struct walk *row, size_t length)
+{
+    struct trial trial = {
+        .entry = WRITE_INSPECT, .page_length = 256, .length = length};
+
+    lay_cells(trial.page, 0x01, 0, row->first, row->first);
+    lay_cells(trial.page_left, 0x01, 0, row->first, row->first);
+    lay_bits(trial.other, ROOM, row->bits);
+    lay_bits(trial.other_left, ROOM, row->bits);
+    if (length > fits(row))
+        trial.answer = REFUSED(8, 44 * strlen(row->bits));
+    else
+        lay_cells(trial.page_left, 0x09, length, row->cells, row->last);
+    check_trial(&trial);
+}
+
+/* An output of that length, which is refused where it is too short. */
+static void check_read(const struct walk *row, size_t length)
+{
+    struct trial trial = {
+        .entry = READ_INSPECT, .page_length = 256, .length = length};
+
+    lay_cells(trial.page, 0x09, fits(row), row->cells, row->last);
+    lay_cells(trial.page_left, 0x09, fits(row), row->cells, row->last);
+    lay_record(trial.other, nines, ROOM);
+    lay_record(trial.other_left, nines, ROOM);
+    trial.answer = length < fits(row) ? REFUSED(3, 0) : fits(row);
+    if (length >= fits(row))
+        lay_bits(trial.other_left, fits(row), row->bits);
+    check_trial(&trial);
+}
+
+static void check_walks(void)
+{
+    size_t i;
+
+    for (i = 0; i < COUNT(walks); i++) {
+        in_case("walk", i);
+        check_written(&walks[i], fits(&walks[i]));
+        check_written(&walks[i], fits(&walks[i]) + 1);
+        check_written(&walks[i], 4096);
+        check_read(&walks[i], fits(&walks[i]));
+        check_read(&walks[i], fits(&walks[i]) + 1);
+        check_read(&walks[i], fits(&walks[i]) - 1);
     }
 }
 
@@ -815,6 +1120,7 @@ int main(int argc, char **argv)
     check_refused_words();
     check_accepted();
     check_refused();
+    check_walks();
     check_page_fills();
     return finish("header");
 }
