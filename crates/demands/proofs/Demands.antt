@@ -12,6 +12,7 @@ use Rattle.cells.specs.Bytes.{Bytes, atStart}
 use Rattle.answer.specs.Answer.{result, answer, numbers}
 use Rattle.answer.proofs.Chains.{no-other, refused-leaves}
 use Rattle.window.specs.Words.{pageWords}
+use Rattle.window.proofs.Words.{length-pageWords, getD-pageWords}
 use Rattle.word.specs.Word.{sum, legalWord, zeckendorf}
 use Rattle.word.specs.Fill.{fill, fillPulses, capacity, setBeforeLast}
 use Rattle.word.specs.Answer.{legalChecks, encodeAnswer, decodeAnswer, fillAnswer, capacityAnswer}
@@ -91,6 +92,7 @@ demand1 = record {
   write-first-1 = write-first-1 page256;
   write-first-2 = write-first-2 page256;
   write-first-4 = write-first-4 page256;
+  forty-four = λ P. (length-pageWords P 44, λ i h. getD-pageWords P 44 i h);
   read-first-1567 = read-first-1567 page256;
   read-first-3 = read-first-3 page256;
   page-capacity-1 = capacity-1 page256;

@@ -1,7 +1,7 @@
 -- What is demanded of a code (specs/Demands.antt), of any code that obeys the laws of a code, on document 01's page.
 -- Assumes nothing.
 use mathlib.Core.Bool.{Bool}
-use mathlib.Core.List.{List, _++_}
+use mathlib.Core.List.{List, [], _++_}
 use mathlib.Core.Logic.{_↔_, Iff·trans}
 use mathlib.Core.Path.{_≡_, refl, sym, ap, _∙_, subst}
 use Prim.Native.Nat.{ℕ, _*_, _≤_, _<_}
@@ -13,7 +13,7 @@ use Rattle.answer.proofs.Chains.{no-other, refused-leaves, taken-leaves, output
 use Rattle.rows.specs.Page.{page256, recordLength}
 use Rattle.rows.specs.Code.{Code, writtenOf, recordOf}
 use Rattle.page.specs.Answer.{writeChecks, writeAnswer, writeLeaves, recordChecks, readChecks, readAnswer, readLeaves}
-use Rattle.page.proofs.CodeAnswers.{write-taken, write-1567, write-8, read-taken, read-1, read-5, read-6, read-7, read-9, read-3}
+use Rattle.page.proofs.CodeAnswers.{write-taken, write-1567, write-8, length-judged, read-taken, read-1, read-5, read-6, read-7, read-9, read-3}
 use Rattle.demands.specs.Demands.{FirstRound, Ready, SecondRound, Fits, outcome, room, roomOver, WriterOf, ReaderOf, TwiceWrittenOf, WritingOf}
 use Rattle.demands.specs.Outcome.{Keeps}
 use Rattle.demands.proofs.Laws.{CodeLaws, Told, AheadOf}
@@ -45,6 +45,7 @@ module _ (c : Code) (same : (n : ℕ) (ws : List (List Bool)) → length (c .jud
     refused-5 = read-5 c same page256;
     refused-6 = read-6 c same page256;
     refused-7 = read-7 c same page256;
+    judged-44 = λ P. length-judged c same page256 P [];
     refused-9 = read-9 c same page256;
     refused-3 = read-3 c same page256;
     refused-by = λ P out. no-other (readChecks c page256 P out) (recordLength P);

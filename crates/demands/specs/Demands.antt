@@ -139,6 +139,7 @@ pub record ReaderOf (c : Code) : Type 0 where
       ↔ (Sized P × (state P ≡ c .into) × ((longest c page256 < recordLength P) ⊎ ¬ (byte2 P ≡ 0)) × (i ≡ 0))
   pub refused-7 : (P out : List ℕ) (i : ℕ) → (readAnswer c P out ≡ refusal 7 i)
       ↔ (RecordHeaderOf c page256 P × LowestBad (c .passes) (judgedOf c page256 P) i)
+  pub judged-44 : (P : List ℕ) → length (judgedOf c page256 P) ≡ 44
   pub refused-9 : (P out : List ℕ) (i : ℕ) → (readAnswer c P out ≡ refusal 9 i)
       ↔ (RecordHeaderOf c page256 P × AllJudgedOf c page256 P
       × ((length (foundOf c page256 P) < 8 * recordLength P) ⊎ T (spareOf c page256 P)) × (i ≡ 0))
@@ -226,6 +227,8 @@ pub record Demand1 : Type 0 where
   pub write-first-1 : (P D : List ℕ) (i : ℕ) → (writeFirstAnswer P D ≡ refusal 1 i) ↔ (¬ Sized P × (i ≡ 0))
   pub write-first-2 : (P D : List ℕ) (i : ℕ) → (writeFirstAnswer P D ≡ refusal 2 i) ↔ (Sized P × ¬ (length D ≡ 176) × (i ≡ 0))
   pub write-first-4 : (P D : List ℕ) (i : ℕ) → (writeFirstAnswer P D ≡ refusal 4 i) ↔ (Sized P × (length D ≡ 176) × ¬ (P ≡ blank) × (i ≡ 0))
+  -- 7 has "the lowest index (0 to 43) of a word": the row of a page's words has 44, and word i of it is that of cells 24 + 46 i and on
+  pub forty-four : (P : List ℕ) → (length (words P) ≡ 44) × ((i : ℕ) → i < 44 → getD (words P) i [] ≡ wordAt P i)
   -- Read first: 1, 5, 6, 7, then "3 if the output is shorter than 176"
   pub read-first-1567 : (P out : List ℕ) → FirstRefusals P (readFirstAnswer P out)
   pub read-first-3 : (P out : List ℕ) (i : ℕ) → Bytes P → (readFirstAnswer P out ≡ refusal 3 i) ↔ (FirstRound P × (length out < 176) × (i ≡ 0))
