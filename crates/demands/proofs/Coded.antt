@@ -1,4 +1,4 @@
--- Pages that are twice written, by any code that obeys the laws of a code, and over any sound shape of page: what comes ahead of the writer, the
+-- Pages that are twice written, by any code that obeys the laws of a code, and over any sound shape of page: the step ahead of the writer, the
 -- outcome, and what a page that the writer or the reader takes comes from.
 -- Assumes nothing.
 use mathlib.Core.Bool.{Bool, true, false}
@@ -67,7 +67,7 @@ module _ {σ : Shape} (f : Sound σ) {c : Code} (laws : CodeLaws c) (told : Told
     tail-Bytes : Bytes t
     tail-Bytes = Bytes-drop m (drop 3 P) (Bytes-drop 3 P (p .of-bytes))
 
-    -- ---- what comes ahead of the writer
+    -- ---- the step ahead of the writer
 
     prepared : Words prep × (length prep ≡ length ws) × Each (c .takes) prep
     prepared = laws .prepared ws (row-of .1) (each-word legal P n (p .words-pass))
@@ -131,7 +131,7 @@ module _ {σ : Shape} (f : Sound σ) {c : Code} (laws : CodeLaws c) (told : Told
       unfolding outcomeOf
       outcome-is = rw (p .byte2-zero) at (laid-put f P (p .of-bytes) (p .sized) (c .into) (length R) vs (laws .states .1) small put-row)
 
-      -- writing over what comes ahead gives the outcome
+      -- writing over what the step ahead leaves gives the outcome
       pub written-is : writtenOf c σ (ahead P) R ≡ O
       unfolding writtenOf
       written-is =
@@ -238,7 +238,7 @@ module _ {σ : Shape} (f : Sound σ) {c : Code} (laws : CodeLaws c) (told : Told
     first-tail : tail m first-of ≡ tail m page
     first-tail = laid-tail f stateFirst 0 0 us us-row (tail m page)
 
-  -- each page that the writer takes is what comes ahead leaves of a first-round page
+  -- each page that the writer takes is what the step ahead leaves of a first-round page
   pub ready-from : (F : List ℕ) → ReadyOf c σ F → (P : List ℕ) × FirstRoundOf σ P × (ahead P ≡ F)
   ready-from F q =
       let o = laws .ready-origin (pageWords F n) (laid-row f F (q .sized) .1) (each-word (c .takes) F n (q .words-pass)) in

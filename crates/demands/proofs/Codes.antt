@@ -1,4 +1,4 @@
--- The fill code and the Inspect code obey the laws of a code, and what comes ahead of each one's writer: so what is demanded of a code holds of both.
+-- The fill code and the Inspect code obey the laws of a code, and the step ahead of each one's writer: so what is demanded of a code holds of both.
 -- Assumes nothing.
 use mathlib.Core.Bool.{Bool, false}
 use mathlib.Core.List.{List, [], _∷_}
@@ -136,7 +136,7 @@ inspect-laws = record {
   states-up = unfold kept cells bit first rest in (tt, tt);
 }
 
--- ---- what comes ahead
+-- ---- the step ahead
 
 -- the state put where bytes 1 and 2 are 0
 header-is : {σ : Shape} → Sound σ → (k : ℕ) (P : List ℕ) → FirstRoundOf σ P → k ∷ drop 1 P ≡ withHeader k 0 P

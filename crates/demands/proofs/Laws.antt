@@ -15,7 +15,7 @@ use Rattle.rows.specs.Code.{Code, longest}
 use Rattle.rows.proofs.EachWord.{Each}
 
 pub record CodeLaws (c : Code) : Type 0 where
-  -- what comes ahead makes legal words ones that the writer takes
+  -- the step ahead makes legal words ones that the writer takes
   pub prepared : (ws : List (List Bool)) → Words ws → Each legal ws
       → Words (c .prepare ws) × (length (c .prepare ws) ≡ length ws) × Each (c .takes) (c .prepare ws)
   pub same-words : (ws : List (List Bool)) (bs : List Bool) → Words ws → Words (c .put ws bs) × (length (c .put ws bs) ≡ length ws)
@@ -46,6 +46,6 @@ pub record CodeLaws (c : Code) : Type 0 where
 abbrev pub Told : Code → Shape → Type 0
 Told c σ = longest c σ < 256
 
--- what comes ahead of a code's writer leaves its state, no record, and the prepared words
+-- the step ahead of a code's writer leaves its state, no record, and the prepared words
 abbrev pub AheadOf : Code → (List ℕ → List ℕ) → Shape → Type 0
 AheadOf c ahead σ = (P : List ℕ) → FirstRoundOf σ P → ahead P ≡ putWords (withHeader (c .over) 0 P) (c .prepare (pageWords P (σ .words)))

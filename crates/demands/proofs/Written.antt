@@ -131,7 +131,7 @@ module _ {c : Code} (laws : CodeLaws c) (told : Told c page256) {ahead : List �
     never-in = λ P R p r. never-in sound256 laws told before P p R r;
   }
 
-  -- writing clears no cell of any page that the writer takes: it is what comes ahead leaves of a first-round page, which the record fits
+  -- writing clears no cell of any page that the writer takes: it is what the step ahead leaves of a first-round page, which the record fits
   pub written-keeps : (F R : List ℕ) → Ready c F → Bytes R → 8 * length R ≤ room c F R → Keeps F (writtenOf c page256 F R)
   written-keeps F R q b h =
       let o = ready-from sound256 laws told before F q in

@@ -83,7 +83,7 @@ Fits c R P = FitsOf c page256 R P
 abbrev pub outcome : Code → List ℕ → List ℕ → List ℕ
 outcome c P R = outcomeOf c page256 P R
 
--- ... how many bits of a record its words take: those of the page that the writer takes, and those of a first-round page after what comes ahead
+-- ... how many bits of a record its words take: those of the page that the writer takes, and those of a first-round page after the step ahead
 abbrev pub room : Code → List ℕ → List ℕ → ℕ
 room c P R = roomFor c page256 P R
 
@@ -148,7 +148,7 @@ pub record ReaderOf (c : Code) : Type 0 where
   pub refused-by : (P out : List ℕ) → RefusesBy (1 ∷ 5 ∷ 6 ∷ 7 ∷ 9 ∷ 3 ∷ []) (readAnswer c P out)
   pub refused-leaves : (P out : List ℕ) (n i : ℕ) → readAnswer c P out ≡ refusal n i → readLeaves c P out ≡ out
 
--- Demand 2's second sentence, of a code with its own writing. `ahead` is what comes ahead of its writer on a first-round page: fill page, or
+-- Demand 2's second sentence, of a code with its own writing. `ahead` is the step ahead of its writer on a first-round page: fill page, or
 -- nothing.
 pub record TwiceWrittenOf (c : Code) (ahead : List ℕ → List ℕ) : Type 0 where
   -- "With an output long enough, a page is accepted as twice written exactly when filling some first-round page and writing some record over it
@@ -156,20 +156,20 @@ pub record TwiceWrittenOf (c : Code) (ahead : List ℕ → List ℕ) : Type 0 wh
   pub twice-written : (page out : List ℕ) → Bytes page → recordLength page ≤ length out
       → ((n : ℕ) × (readAnswer c page out ≡ result n))
       ↔ ((P : List ℕ) × (R : List ℕ) × FirstRound P × Fits c R P × (writeLeaves c (ahead P) R ≡ page))
-  -- the pages that the writer takes are exactly what comes ahead of it leaves of first-round pages
+  -- the pages that the writer takes are exactly what the step ahead leaves of first-round pages
   pub ready : (F : List ℕ) → Ready c F ↔ ((P : List ℕ) × FirstRound P × (ahead P ≡ F))
 
 -- Demand 3 of a code with its own writing, without the figures of the fill code. For all first-round pages P and Q, every record R that fits P
 -- and every record S that fits Q: ...
 pub record WritingOf (c : Code) (ahead : List ℕ → List ℕ) : Type 0 where
-  -- "writing R over P is accepted, leaves exactly the outcome that the rules define": writing over what comes ahead leaves
+  -- "writing R over P is accepted, leaves exactly the outcome that the rules define": writing over what the step ahead leaves
   pub accepted : (P R : List ℕ) → FirstRound P → Fits c R P
       → (writeAnswer c (ahead P) R ≡ result 0) × (writeLeaves c (ahead P) R ≡ outcome c P R)
   -- the outcome's header and words, without a look at `putWords` (specs/Outcome.antt has each word)
   pub header : (P R : List ℕ) → FirstRound P → Fits c R P
       → (state (outcome c P R) ≡ c .into) × (recordLength (outcome c P R) ≡ length R) × (byte2 (outcome c P R) ≡ 0)
   pub outcome-words : (P R : List ℕ) → FirstRound P → Fits c R P → words (outcome c P R) ≡ c .put (c .prepare (words P)) (bits R)
-  -- "and clears no cell in any byte of P": a bit that is set in a byte of P is set in that byte of what comes ahead leaves, one that is set
+  -- "and clears no cell in any byte of P": a bit that is set in a byte of P is set in that byte of what the step ahead leaves, one that is set
   -- there is set in the outcome, and so from P to the outcome; each has 256 bytes
   pub ahead-clears-none : (P : List ℕ) → FirstRound P → (i b : ℕ) → T (bit (getD P i 0) b) → T (bit (getD (ahead P) i 0) b)
   pub writing-clears-none : (P R : List ℕ) → FirstRound P → Fits c R P
@@ -178,7 +178,7 @@ pub record WritingOf (c : Code) (ahead : List ℕ → List ℕ) : Type 0 where
       → (i b : ℕ) → T (bit (getD P i 0) b) → T (bit (getD (outcome c P R) i 0) b)
   pub ahead-256 : (P : List ℕ) → FirstRound P → (length (ahead P) ≡ 256) × Bytes (ahead P)
   pub still-256 : (P R : List ℕ) → FirstRound P → Fits c R P → (length (outcome c P R) ≡ 256) × Bytes (outcome c P R)
-  -- "where writing refuses 8, the page remains filled": a record that does not fit P is refused, and leaves what came ahead
+  -- "where writing refuses 8, the page remains filled": a record that does not fit P is refused, and what the step ahead left stays
   pub remains : (P R : List ℕ) → FirstRound P → roomOver c P R < 8 * length R
       → (writeAnswer c (ahead P) R ≡ refusal 8 (roomOver c P R)) × (writeLeaves c (ahead P) R ≡ ahead P)
   -- "reading the outcome alone, into any output long enough and whatever that held, gives the length and the bytes of R"

@@ -67,7 +67,7 @@ sure c s = c .least * s .words / 8
 abbrev pub roomFor : Code → Shape → List ℕ → List ℕ → ℕ
 roomFor c s page bs = c .room (pageWords page (s .words)) (bits bs)
 
--- ... and those of a first-round page, after what comes ahead
+-- ... and those of a first-round page, after the step ahead
 abbrev pub roomAhead : Code → Shape → List ℕ → List ℕ → ℕ
 roomAhead c s page bs = c .room (c .prepare (pageWords page (s .words))) (bits bs)
 
