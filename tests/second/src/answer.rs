@@ -32,9 +32,9 @@ impl Refusal {
         Refusal { number: 7, index: index as u64 }
     }
 
-    /// 8, with the page's capacity.
-    pub fn record_length(capacity: usize) -> Refusal {
-        Refusal { number: 8, index: capacity as u64 }
+    /// 8, with how many bits go in: the page's capacity, or the record's bits that the walks of the Inspect code take.
+    pub fn record_length(bits: usize) -> Refusal {
+        Refusal { number: 8, index: bits as u64 }
     }
 }
 

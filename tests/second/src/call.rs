@@ -1,8 +1,8 @@
 //! A call of one entry: what goes in, and its performance by this implementation.
 
 use crate::answer::Answer;
-use crate::page::{BLANK, FILLED, FIRST_ROUND, SECOND_ROUND};
-use crate::{file, page, word};
+use crate::page::{BLANK, FILLED, FIRST_ROUND, INSPECTED, SECOND_ROUND};
+use crate::{file, inspect, page, word};
 
 /// The entries, in the order of their numbers.
 #[derive(Clone, Copy, Debug, PartialEq, Eq)]
@@ -18,10 +18,12 @@ pub enum Entry {
     ReadSecond,
     WriteFile,
     FillPage,
+    WriteInspect,
+    ReadInspect,
 }
 
 impl Entry {
-    pub const ALL: [Entry; 11] = [
+    pub const ALL: [Entry; 13] = [
         Entry::EncodeWord,
         Entry::DecodeWord,
         Entry::FillWord,
@@ -33,26 +35,40 @@ impl Entry {
         Entry::ReadSecond,
         Entry::WriteFile,
         Entry::FillPage,
+        Entry::WriteInspect,
+        Entry::ReadInspect,
     ];
     /// The entries that take a word and may refuse it.
     pub const OF_WORDS: [Entry; 3] = [Entry::DecodeWord, Entry::FillWord, Entry::WordCapacity];
     /// The entries that take one page, in the order of a page's life.
-    pub const OF_PAGES: [Entry; 6] = [
+    pub const OF_PAGES: [Entry; 8] = [
         Entry::WriteFirst,
         Entry::ReadFirst,
         Entry::PageCapacity,
         Entry::FillPage,
         Entry::WriteSecond,
         Entry::ReadSecond,
+        Entry::WriteInspect,
+        Entry::ReadInspect,
     ];
     /// The entries that take data, an output or a record beside one page.
-    pub const WITH_OTHER: [Entry; 4] = [Entry::WriteFirst, Entry::ReadFirst, Entry::WriteSecond, Entry::ReadSecond];
+    pub const WITH_OTHER: [Entry; 6] = [
+        Entry::WriteFirst,
+        Entry::ReadFirst,
+        Entry::WriteSecond,
+        Entry::ReadSecond,
+        Entry::WriteInspect,
+        Entry::ReadInspect,
+    ];
     /// The entries that take a first-round page.
-    pub const OF_FIRST_PAGES: [Entry; 3] = [Entry::ReadFirst, Entry::PageCapacity, Entry::FillPage];
+    pub const OF_FIRST_PAGES: [Entry; 4] =
+        [Entry::ReadFirst, Entry::PageCapacity, Entry::FillPage, Entry::WriteInspect];
     /// The entries that take a filled page.
     pub const OF_FILLED_PAGES: [Entry; 2] = [Entry::PageCapacity, Entry::WriteSecond];
     /// The entries that take a page after its fill: a filled page, or a second-round page.
     pub const AFTER_THE_FILL: [Entry; 3] = [Entry::PageCapacity, Entry::WriteSecond, Entry::ReadSecond];
+    /// The entries of the Inspect code.
+    pub const OF_INSPECT: [Entry; 2] = [Entry::WriteInspect, Entry::ReadInspect];
 
     pub fn number(self) -> usize {
         self as usize
@@ -71,6 +87,8 @@ impl Entry {
             Entry::ReadSecond => "read second",
             Entry::WriteFile => "write file",
             Entry::FillPage => "fill page",
+            Entry::WriteInspect => "write inspect",
+            Entry::ReadInspect => "read inspect",
         }
     }
 
@@ -91,8 +109,8 @@ impl Entry {
             Entry::WriteFirst => &[1, 2, 4],
             Entry::ReadFirst => &[1, 5, 6, 7, 3],
             Entry::PageCapacity | Entry::FillPage => &[1, 5, 6, 7],
-            Entry::WriteSecond => &[1, 5, 6, 7, 8],
-            Entry::ReadSecond => &[1, 5, 6, 7, 9, 3],
+            Entry::WriteSecond | Entry::WriteInspect => &[1, 5, 6, 7, 8],
+            Entry::ReadSecond | Entry::ReadInspect => &[1, 5, 6, 7, 9, 3],
             Entry::WriteFile => &[13, 3],
         }
     }
@@ -101,10 +119,11 @@ impl Entry {
     pub fn states(self) -> &'static [u8] {
         match self {
             Entry::WriteFirst => &[BLANK],
-            Entry::ReadFirst | Entry::FillPage => &[FIRST_ROUND],
+            Entry::ReadFirst | Entry::FillPage | Entry::WriteInspect => &[FIRST_ROUND],
             Entry::PageCapacity => &[FIRST_ROUND, FILLED],
             Entry::WriteSecond => &[FILLED],
             Entry::ReadSecond => &[SECOND_ROUND],
+            Entry::ReadInspect => &[INSPECTED],
             _ => &[],
         }
     }
@@ -122,11 +141,11 @@ impl Entry {
     }
 
     pub fn writes_page(self) -> bool {
-        matches!(self, Entry::WriteFirst | Entry::FillPage | Entry::WriteSecond)
+        matches!(self, Entry::WriteFirst | Entry::FillPage | Entry::WriteSecond | Entry::WriteInspect)
     }
 
     pub fn writes_output(self) -> bool {
-        matches!(self, Entry::ReadFirst | Entry::ReadSecond | Entry::WriteFile)
+        matches!(self, Entry::ReadFirst | Entry::ReadSecond | Entry::ReadInspect | Entry::WriteFile)
     }
 }
 
@@ -179,6 +198,8 @@ impl Call {
             Entry::ReadSecond => page::read_second(&self.page, &mut self.other),
             Entry::WriteFile => file::write_file(self.argument as u32, &self.page, &mut self.other),
             Entry::FillPage => page::fill_page(&mut self.page),
+            Entry::WriteInspect => inspect::write_inspect(&mut self.page, &self.other),
+            Entry::ReadInspect => inspect::read_inspect(&self.page, &mut self.other),
         }
     }
 
@@ -204,6 +225,7 @@ mod tests {
         }
         let named = [Entry::PageCapacity, Entry::WriteSecond, Entry::ReadSecond, Entry::WriteFile, Entry::FillPage];
         assert_eq!(named.map(Entry::number), [6, 7, 8, 9, 10]);
+        assert_eq!(Entry::OF_INSPECT.map(Entry::number), [11, 12]);
     }
 
     #[test]

@@ -1,16 +1,24 @@
 //! Counters of the calls that a run has made, and of their answers. A run is wrong unless it has met each that is wanted:
-//! among them, accepted pages as only versions before Change 6 left them, and pages that only Change 6 lets be accepted.
+//! among them, accepted pages as only versions before Change 6 left them, pages that only Change 6 lets be accepted, and
+//! both ends of what a word takes by the Inspect code.
 
 use crate::answer::{number, pulses_in, value, Answer};
 use crate::call::{Call, Entry};
 use crate::case::Place;
+use crate::inspect::{walks, without_pairs, Step, WALK_ENDS};
 use crate::memory::Side;
-use crate::page::{words_of, Words, FILLED, FIRST_ROUND, WORDS};
-use crate::word::{self, PULSES_MOST};
+use crate::page::{words_of, Words, FILLED, FIRST_ROUND, INSPECTED, WORDS};
+use crate::word::{self, LAST_CELL, PULSES_MOST};
 use std::ops::RangeInclusive;
 
-/// The capacities that refusal 8 must have named: the least and the most of a page.
-const ENDS: [u64; 2] = [660, 1_012];
+/// The bits that refusal 8 of each entry must have named: the least and the most capacity of a page, and the least and the
+/// most that the walks of the Inspect code take.
+const ENDS: [(Entry, u64); 4] = [
+    (Entry::WriteSecond, 660),
+    (Entry::WriteSecond, 1_012),
+    (Entry::WriteInspect, 1_012),
+    (Entry::WriteInspect, 1_980),
+];
 
 /// The pulses of a page of which fill page must have answered some: the least, the most, and between them each stretch
 /// of 256, which a sum in 8 bits would not tell from another.
@@ -23,6 +31,10 @@ enum Flaw {
     NotWellFormed,
     /// On a filled page, in a word that is well formed.
     DataCellSet,
+    /// On a page of the Inspect code, two neighbours that are no read pair.
+    NeighboursUnread,
+    /// On a page of the Inspect code, without such neighbours.
+    SumTooLarge,
 }
 
 impl Flaw {
@@ -31,6 +43,8 @@ impl Flaw {
             Flaw::NotLegal => "not legal",
             Flaw::NotWellFormed => "not well formed",
             Flaw::DataCellSet => "with a data cell set",
+            Flaw::NeighboursUnread => "with neighbours that are not read",
+            Flaw::SumTooLarge => "with a sum too large",
         }
     }
 
@@ -39,13 +53,21 @@ impl Flaw {
         match page[0] {
             FIRST_ROUND => Flaw::NotLegal,
             FILLED if word::well_formed(&words_of(page)[index]) => Flaw::DataCellSet,
+            INSPECTED if word::has_neighbours(&words_read(page)[index]) => Flaw::NeighboursUnread,
+            INSPECTED => Flaw::SumTooLarge,
             _ => Flaw::NotWellFormed,
         }
     }
 }
 
+/// The words of a page of the Inspect code with the read pairs put to 00.
+fn words_read(page: &[u8]) -> Words {
+    let words = words_of(page);
+    without_pairs(&words, &walks(&words, 8 * usize::from(page[1])))
+}
+
 /// Each entry that gives 7, with each flaw that it gives it for.
-const FLAWS: [(Entry, Flaw); 8] = [
+const FLAWS: [(Entry, Flaw); 11] = [
     (Entry::ReadFirst, Flaw::NotLegal),
     (Entry::PageCapacity, Flaw::NotLegal),
     (Entry::PageCapacity, Flaw::NotWellFormed),
@@ -54,6 +76,9 @@ const FLAWS: [(Entry, Flaw); 8] = [
     (Entry::WriteSecond, Flaw::NotWellFormed),
     (Entry::WriteSecond, Flaw::DataCellSet),
     (Entry::ReadSecond, Flaw::NotWellFormed),
+    (Entry::WriteInspect, Flaw::NotLegal),
+    (Entry::ReadInspect, Flaw::NeighboursUnread),
+    (Entry::ReadInspect, Flaw::SumTooLarge),
 ];
 
 /// What a page after its fill has at the end of one word at least.
@@ -113,7 +138,10 @@ pub struct Coverage {
     /// For each of `FLAWS` and each word: how often 7 named it.
     words: [[u64; WORDS]; FLAWS.len()],
     /// For each of `ENDS`: how often 8 named it.
-    ends: [u64; 2],
+    ends: [u64; ENDS.len()],
+    /// For each of `Entry::OF_INSPECT` and each of `WALK_ENDS`: how often a page with a word that takes so many bits was
+    /// accepted.
+    walks: [[u64; 2]; 2],
     /// For each of `Entry::AFTER_THE_FILL` and each of `WordEnd::ALL`: how often a page that has it was accepted.
     word_ends: [[u64; 2]; 3],
     /// For each number of pulses, 0 to 23: how often fill word answered it.
@@ -128,7 +156,8 @@ impl Coverage {
             places: [[[0; NUMBERS]; ENTRIES]; 6],
             measured: [[[0; NUMBERS]; 2]; 6],
             words: [[0; WORDS]; FLAWS.len()],
-            ends: [0; 2],
+            ends: [0; ENDS.len()],
+            walks: [[0; 2]; 2],
             word_ends: [[0; 2]; 3],
             word_pulses: [0; PULSES_MOST + 1],
             page_pulses: [0; PAGE_PULSES.len()],
@@ -158,9 +187,13 @@ impl Coverage {
             0 => {
                 self.count_pulses(call.entry, value(answer));
                 self.count_word_ends(call);
+                self.count_walks(call);
             }
             7 => self.count_word(call, value(answer) as usize),
-            8 => (0..2).filter(|&end| ENDS[end] == value(answer)).for_each(|end| self.ends[end] += 1),
+            8 => {
+                let named = |&end: &usize| ENDS[end] == (call.entry, value(answer));
+                (0..ENDS.len()).filter(named).for_each(|end| self.ends[end] += 1);
+            }
             _ => {}
         }
     }
@@ -179,6 +212,18 @@ impl Coverage {
         let (words, first) = (words_of(&call.page), call.first.as_deref().map(words_of));
         for (end, met) in WordEnd::ALL.into_iter().zip(&mut self.word_ends[entry]) {
             *met += u64::from(end.is_on(&words, first.as_ref()));
+        }
+    }
+
+    /// Counts what the words of the accepted page of the Inspect code take, as it is after the call.
+    fn count_walks(&mut self, call: &Call) {
+        let Some(entry) = Entry::OF_INSPECT.iter().position(|&entry| entry == call.entry) else { return };
+        let mut after = call.clone();
+        after.perform().expect("it is accepted");
+        let walks = walks(&words_of(&after.page), 8 * usize::from(after.page[1]));
+        for (bits, met) in WALK_ENDS.into_iter().zip(&mut self.walks[entry]) {
+            let ended = |steps: &Vec<Step>| steps.last().is_some_and(|step| step.next >= LAST_CELL);
+            *met += u64::from(walks.iter().any(|steps| steps.len() == bits && ended(steps)));
         }
     }
 
@@ -205,14 +250,15 @@ impl Coverage {
 
     /// Every counter that must not be 0, with its name.
     pub fn wanted(&self) -> Vec<(String, u64)> {
-        let ends = (0..2).map(|end| (format!("write second 8 with {}", ENDS[end]), self.ends[end]));
+        let ends = ENDS.into_iter().zip(self.ends);
+        let ends = ends.map(|((entry, bits), met)| (format!("{} 8 with {bits}", entry.name()), met));
         let answers = Entry::ALL.into_iter().flat_map(|entry| self.wanted_of(entry));
         let words = (0..FLAWS.len()).flat_map(|place| self.wanted_words(place));
         let measured = (0..2).flat_map(|state| self.wanted_measured(state));
         let buffers = Entry::ALL.into_iter().filter(|entry| entry.takes_buffers());
         let places = buffers.flat_map(|entry| self.wanted_places(entry));
         let wanted = answers.chain(words).chain(measured).chain(places).chain(ends);
-        wanted.chain(self.wanted_pulses()).chain(self.wanted_word_ends()).collect()
+        wanted.chain(self.wanted_pulses()).chain(self.wanted_word_ends()).chain(self.wanted_walks()).collect()
     }
 
     fn wanted_of(&self, entry: Entry) -> Vec<(String, u64)> {
@@ -257,6 +303,14 @@ impl Coverage {
         each.map(|(entry, end, met)| (format!("{} accepted, {}", entry.name(), end.name()), met)).collect()
     }
 
+    /// Each entry of the Inspect code has accepted a page with a word of each of `WALK_ENDS`.
+    fn wanted_walks(&self) -> Vec<(String, u64)> {
+        let entries = Entry::OF_INSPECT.into_iter().zip(self.walks);
+        let each =
+            entries.flat_map(|(entry, met)| WALK_ENDS.into_iter().zip(met).map(move |(bits, met)| (entry, bits, met)));
+        each.map(|(entry, bits, met)| (format!("{} accepted, a word of {bits} bits", entry.name()), met)).collect()
+    }
+
     fn wanted_in_state(&self, state: usize, place: Place, number: u8) -> (String, u64) {
         let name = format!("page capacity {} {}, {}", answer_name(number), MEASURED[state].1, place.name());
         (name, self.measured[place.number()][state][usize::from(number)])
@@ -291,7 +345,7 @@ impl Coverage {
         if entry.refusals().contains(&7) {
             line += &format!("  7 at {} words", self.words_named(entry));
         }
-        line + &self.results_of(entry) + &self.word_ends_of(entry) + "\n"
+        line + &self.results_of(entry) + &self.ends_of(entry) + &self.word_ends_of(entry) + &self.walks_of(entry) + "\n"
     }
 
     /// How often the entry, if it takes a page after its fill, has accepted one with each of `WordEnd::ALL`.
@@ -314,9 +368,21 @@ impl Coverage {
                 format!("  0 pulses: {least}  1012 pulses: {most}")
             }
             Entry::PageCapacity => format!("  filled accepted: {}", self.measured[Place::Canaries.number()][1][0]),
-            Entry::WriteSecond => format!("  8 with 660: {}  8 with 1012: {}", self.ends[0], self.ends[1]),
             _ => String::new(),
         }
+    }
+
+    /// How often 8 of the entry named each of its `ENDS`.
+    fn ends_of(&self, entry: Entry) -> String {
+        let of_entry = ENDS.into_iter().zip(self.ends).filter(|((of, _), _)| *of == entry);
+        of_entry.map(|((_, bits), met)| format!("  8 with {bits}: {met}")).collect()
+    }
+
+    /// How often the entry, if it is of the Inspect code, has accepted a page with a word of each of `WALK_ENDS`.
+    fn walks_of(&self, entry: Entry) -> String {
+        let of_entry = Entry::OF_INSPECT.into_iter().zip(self.walks).filter(|(of, _)| *of == entry);
+        let ends = of_entry.flat_map(|(_, met)| WALK_ENDS.into_iter().zip(met));
+        ends.map(|(bits, met)| format!("  a word of {bits} bits: {met}")).collect()
     }
 
     /// The number of words that 7 of the entry named for each of its flaws.
@@ -363,8 +429,8 @@ fn answer_name(number: u8) -> String {
 fn far_numbers(entry: Entry) -> &'static [u8] {
     match entry {
         Entry::WriteFirst => &[1, 2],
-        Entry::ReadFirst | Entry::ReadSecond => &[1, 0],
-        Entry::WriteSecond => &[1, 8],
+        Entry::ReadFirst | Entry::ReadSecond | Entry::ReadInspect => &[1, 0],
+        Entry::WriteSecond | Entry::WriteInspect => &[1, 8],
         Entry::WriteFile => &[13, 0],
         _ => &[1],
     }
@@ -374,12 +440,13 @@ fn far_numbers(entry: Entry) -> &'static [u8] {
 mod tests {
     use super::*;
     use crate::answer::Refusal;
+    use crate::cases::inspect::inspect_page;
     use crate::cases::pages::{
         filled_page, filled_page_earlier, first_page, second_page, second_page_earlier, values_with_pulses, with_byte,
         with_data_cell, with_value, with_word,
     };
-    use crate::cases::words::{value_with_pulses, END_VALUES, OPEN_VALUES, SPARSE_VALUE};
-    use crate::word::{legal_word, number_of};
+    use crate::cases::words::{value_with_pulses, END_VALUES, ODD_VALUE, OPEN_VALUES, SPARSE_VALUE};
+    use crate::word::{cells_with_sum, legal_word, number_of, LARGEST_SUM};
 
     /// How many counters are still 0.
     fn missing(coverage: &Coverage) -> usize {
@@ -548,5 +615,55 @@ mod tests {
     fn the_capacity_that_8_names_counts() {
         let filled = filled_page(&first_page(&[0; WORDS]));
         assert_eq!(met_by(Entry::WriteSecond, filled), ["write second 8", "write second 8 with 1012"]);
+    }
+
+    /// The bits that 8 of write inspect names: zeros over the odd cells, and over no cell.
+    #[test]
+    fn the_bits_that_8_of_write_inspect_names_count() {
+        for (value, length, bits) in [(ODD_VALUE, 127, 1_012), (0, 248, 1_980)] {
+            let call = Call::of_page(Entry::WriteInspect, first_page(&[value; WORDS]), vec![0; length]);
+            assert_eq!(met_by_call(&call), ["write inspect 8".to_string(), format!("write inspect 8 with {bits}")]);
+        }
+    }
+
+    /// An accepted page counts for the bits that its words take, once it is written or before it is read. A word in which
+    /// the record ends counts for nothing.
+    #[test]
+    fn the_bits_of_words_count() {
+        for (byte, length, bits) in [(0x00, 6, Some(45)), (0xFF, 3, Some(23)), (0x00, 5, None), (0xFF, 2, None)] {
+            let (first, record) = (first_page(&[0; WORDS]), vec![byte; length]);
+            let page = inspect_page(&first, &record);
+            let calls = [(Entry::WriteInspect, first), (Entry::ReadInspect, page)];
+            for call in calls.map(|(entry, page)| Call::of_page(entry, page, record.clone())) {
+                let accepted = format!("{} accepted", call.entry.name());
+                let ends = bits.map(|bits| format!("{accepted}, a word of {bits} bits"));
+                assert_eq!(met_by_call(&call), [accepted].into_iter().chain(ends).collect::<Vec<_>>());
+            }
+        }
+    }
+
+    /// Two ends for each of both entries, and the table tells how often each was met.
+    #[test]
+    fn both_ends_of_the_bits_of_a_word_are_wanted() {
+        let wanted = Coverage::new().wanted();
+        assert_eq!(wanted.iter().filter(|(name, _)| name.contains("a word of ")).count(), 4);
+        let table = Coverage::new().table();
+        for text in ["  a word of 23 bits: 0", "  a word of 45 bits: 0"] {
+            assert_eq!(table.matches(text).count(), 2);
+        }
+    }
+
+    #[test]
+    fn the_flaw_of_a_word_of_the_inspect_code_counts() {
+        let page = inspect_page(&first_page(&[0; WORDS]), &[0; 20]);
+        for (index, cells, flaw) in [
+            (0, cells_with_sum(LARGEST_SUM), "with a sum too large"),
+            (7, cells_with_sum(LARGEST_SUM), "with a sum too large"),
+            (7, [true; 46], "with neighbours that are not read"),
+        ] {
+            let name = format!("read inspect 7 at word {index}, {flaw}");
+            let met = met_by(Entry::ReadInspect, with_word(page.clone(), index, cells));
+            assert_eq!(met, ["read inspect 7".to_string(), name]);
+        }
     }
 }

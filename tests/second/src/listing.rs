@@ -1,8 +1,9 @@
-//! The listing of document 01, with the kind of Change 2, as a function from bytes to text; and what the gain sheet goes
-//! by as well: the pieces of the input, and the kind and the number of each.
+//! The listing of document 01, with the kind of Change 2 and the state of Change 7, as a function from bytes to text;
+//! and what the gain sheet goes by as well: the pieces of the input, and the kind and the number of each.
 
 use crate::answer::Answer;
-use crate::page::{self, BLANK, FILLED, FIRST_ROUND, PAGE_BYTES, SECOND_BYTES_MOST, SECOND_ROUND};
+use crate::inspect::{read_inspect, INSPECT_BYTES_MOST};
+use crate::page::{self, BLANK, FILLED, FIRST_ROUND, INSPECTED, PAGE_BYTES, SECOND_BYTES_MOST, SECOND_ROUND};
 use std::fmt::{self, Display, Formatter};
 
 /// "stops after 4,096 pages".
@@ -76,6 +77,8 @@ pub fn described(piece: &[u8]) -> Described {
         FIRST_ROUND => accepted(Kind::First, page::page_capacity(piece)),
         FILLED => accepted(Kind::Filled, page::page_capacity(piece)),
         SECOND_ROUND => accepted(Kind::Second, page::read_second(piece, &mut [0; SECOND_BYTES_MOST])),
+        // "The listing and the gain sheet count state 09 as second."
+        INSPECTED => accepted(Kind::Second, read_inspect(piece, &mut [0; INSPECT_BYTES_MOST])),
         _ => bad(5),
     }
 }
@@ -93,6 +96,7 @@ pub fn listing(input: &[u8]) -> String {
 #[cfg(test)]
 mod tests {
     use super::*;
+    use crate::inspect::write_inspect;
 
     #[test]
     fn a_blank_page_and_a_page_of_176_zero_bytes() {
@@ -140,6 +144,38 @@ mod tests {
         ] {
             filled[255] = byte;
             assert_eq!(listing(&filled), line, "{byte:08b}");
+        }
+    }
+
+    /// "The listing and the gain sheet count state 09 as second", with the length; `bad` there has the reader's 6, 7 or 9.
+    #[test]
+    fn pages_of_the_inspect_code() {
+        let mut first = vec![0; PAGE_BYTES];
+        page::write_first(&mut first, &[0; 176]).unwrap();
+        for (length, line) in
+            [(0, "0 second 0\n"), (126, "0 second 126\n"), (127, "0 second 127\n"), (247, "0 second 247\n")]
+        {
+            let mut piece = first.clone();
+            write_inspect(&mut piece, &vec![0; length]).unwrap();
+            assert_eq!(listing(&piece), line);
+        }
+        // With cells 0, 3, 6 and so on up to 45 in each word, 1,320 zeros are read.
+        let mut sparse = vec![0; PAGE_BYTES];
+        page::write_first(&mut sparse, &3_889_371_024_u32.to_be_bytes().repeat(44)).unwrap();
+        sparse[0] = 0x09;
+        for (place, byte, line) in [
+            (1, 165, "0 second 165\n"),
+            (1, 166, "0 bad 9\n"),
+            (1, 247, "0 bad 9\n"),
+            (1, 248, "0 bad 6\n"),
+            (2, 1, "0 bad 6\n"),
+            (255, 0xFF, "0 bad 7\n"),
+            (0, 0x08, "0 bad 5\n"),
+            (0, 0x0B, "0 bad 5\n"),
+        ] {
+            let mut piece = sparse.clone();
+            piece[place] = byte;
+            assert_eq!(listing(&piece), line);
         }
     }
 

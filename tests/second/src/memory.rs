@@ -180,10 +180,10 @@ impl FarArena {
         NEAR_BYTES - touchable
     }
 
-    /// Puts the bytes right before the untouchable ones; they are the first of the returned buffer.
+    /// Puts the bytes right before the untouchable ones; they are the first of the returned buffer. Its end may lie beyond
+    /// the reserved bytes: then it is for a call alone that never looks at other bytes than these.
     pub fn put(&mut self, bytes: &[u8], length: usize) -> Span {
         let offset = FarArena::offset(bytes.len());
-        assert!(length <= FAR_BYTES, "{length} bytes are not reserved");
         // SAFETY: the bytes fit between offset and the untouchable bytes, and no reference outlives a borrow.
         unsafe { ptr::copy_nonoverlapping(bytes.as_ptr(), self.near.add(offset), bytes.len()) };
         Span { start: self.near.wrapping_add(offset), length }

@@ -1,4 +1,4 @@
-//! The page and its six operations.
+//! The page and its operations, but for those of the Inspect code.
 
 use crate::answer::{refuse_if, Answer, Refusal};
 use crate::word::{self, Cells, CELLS};
@@ -18,6 +18,8 @@ pub const BLANK: u8 = 0x00;
 pub const FIRST_ROUND: u8 = 0x01;
 pub const FILLED: u8 = 0x03;
 pub const SECOND_ROUND: u8 = 0x07;
+/// Second round by the Inspect code: "The state becomes 09 (hexadecimal)".
+pub const INSPECTED: u8 = 0x09;
 
 /// "Bytes 3 to 255 are 2,024 cells".
 const HEADER_BYTES: usize = 3;
@@ -26,7 +28,7 @@ const HEADER_BYTES: usize = 3;
 pub type Words = [Cells; WORDS];
 
 /// "the highest bit of a byte first".
-fn bits_of(bytes: &[u8]) -> impl Iterator<Item = bool> + '_ {
+pub fn bits_of(bytes: &[u8]) -> impl Iterator<Item = bool> + '_ {
     bytes.iter().flat_map(|&byte| (0..8).map(move |bit| byte >> (7 - bit) & 1 == 1))
 }
 
@@ -66,25 +68,30 @@ pub fn data_cells_of(words: &Words) -> Vec<(usize, usize)> {
 }
 
 /// "7 with the lowest index (0 to 43) of a word" that is not as it must be.
-fn refuse_word(words: &Words, sound: fn(&Cells) -> bool) -> Result<(), Refusal> {
+pub fn refuse_word(words: &Words, sound: fn(&Cells) -> bool) -> Result<(), Refusal> {
     match words.iter().position(|cells| !sound(cells)) {
         Some(index) => Err(Refusal::word(index)),
         None => Ok(()),
     }
 }
 
-/// The words of a page in this state, whose byte 1 is at most `longest`; or the refusals 1, 5, 6, 7.
-fn words_in(page: &[u8], state: u8, longest: usize, sound: fn(&Cells) -> bool) -> Result<Words, Refusal> {
+/// The words, not judged, of a page in this state, whose byte 1 is at most `longest`; or the refusals 1, 5, 6.
+pub fn words_below_header(page: &[u8], state: u8, longest: usize) -> Result<Words, Refusal> {
     refuse_if(page.len() != PAGE_BYTES, Refusal::PAGE_LENGTH)?;
     refuse_if(page[0] != state, Refusal::STATE)?;
     refuse_if(usize::from(page[1]) > longest || page[2] != 0, Refusal::HEADER)?;
-    let words = words_of(page);
+    Ok(words_of(page))
+}
+
+/// The words of such a page, all of them sound; or the refusals 1, 5, 6, 7.
+fn words_in(page: &[u8], state: u8, longest: usize, sound: fn(&Cells) -> bool) -> Result<Words, Refusal> {
+    let words = words_below_header(page, state, longest)?;
     refuse_word(&words, sound)?;
     Ok(words)
 }
 
 /// The words of a first-round page, or the refusals "as in read first".
-fn first_round_words(page: &[u8]) -> Result<Words, Refusal> {
+pub fn first_round_words(page: &[u8]) -> Result<Words, Refusal> {
     words_in(page, FIRST_ROUND, 0, word::legal)
 }
 
@@ -174,18 +181,25 @@ pub fn write_second(page: &mut [u8], record: &[u8]) -> Answer {
     Ok(0)
 }
 
-/// "Returns the length and puts the record at the start of the output, the remainder unchanged."
-pub fn read_second(page: &[u8], output: &mut [u8]) -> Answer {
-    let words = second_round_words(page)?;
-    let bits: Vec<bool> = data_cells_of(&words).into_iter().map(|(index, cell)| words[index][cell]).collect();
-    let length = usize::from(page[1]);
-    let too_few = 8 * length > bits.len();
-    refuse_if(too_few || bits[8 * length..].contains(&true), Refusal::DATA_CELLS)?;
+/// "Returns the length and puts the record at the start of the output, the remainder unchanged"; or refuses "3 if the
+/// output is shorter than the record". The bits are the record's.
+pub fn put_record_out(bits: &[bool], output: &mut [u8]) -> Answer {
+    let length = bits.len() / 8;
     refuse_if(output.len() < length, Refusal::OUTPUT_LENGTH)?;
-    for (byte, eight) in output.iter_mut().zip(bits[..8 * length].chunks(8)) {
+    for (byte, eight) in output.iter_mut().zip(bits.chunks(8)) {
         *byte = byte_of(eight);
     }
     Ok(length as u64)
+}
+
+/// Reads the record of a second-round page: "9 if 8 times byte 1 exceeds the number of data cells or a spare data cell
+/// is 1".
+pub fn read_second(page: &[u8], output: &mut [u8]) -> Answer {
+    let words = second_round_words(page)?;
+    let bits: Vec<bool> = data_cells_of(&words).into_iter().map(|(index, cell)| words[index][cell]).collect();
+    let count = 8 * usize::from(page[1]);
+    refuse_if(count > bits.len() || bits[count..].contains(&true), Refusal::DATA_CELLS)?;
+    put_record_out(&bits[..count], output)
 }
 
 #[cfg(test)]

@@ -1,10 +1,12 @@
 //! The fixed pages for the listing program and for the gain program, and pages of one kind.
 
+use crate::cases::inspect::{any_inspect, first_taking_less, inspect_page, longest_of, RECORDS};
 use crate::cases::pages::*;
 use crate::cases::words::{
     any_value, illegal, sum_too_large, value_with_pulses, with_bare_hole, with_hole, with_neighbours, Hole, EDGE_VALUE,
-    OPEN_ODD_VALUE, OPEN_SPARSE_VALUE, SPARSE_VALUE,
+    ODD_VALUE, OPEN_ODD_VALUE, OPEN_SPARSE_VALUE, SPARSE_VALUE,
 };
+use crate::inspect::INSPECT_BYTES_MOST;
 use crate::listing::{described, Kind};
 use crate::page::{data_cells_of, words_of, PAGE_BYTES, SECOND_BYTES_MOST, WORDS};
 use crate::random::Random;
@@ -17,12 +19,13 @@ const ALIKE_SEED: u64 = 1_408;
 /// Pages of every kind and of every `bad` number, and a last piece of 255 bytes that lacks one byte of a valid page.
 pub fn listing_pages() -> Vec<u8> {
     let mut random = Random::new(LISTING_SEED);
-    let states = [0x02, 0x05, 0x09, 0xFF].map(|state| with_byte(any_first(&mut random), 0, state));
+    let states = [0x02, 0x05, 0x0B, 0xFF].map(|state| with_byte(any_first(&mut random), 0, state));
     let filled_states = [0x02, 0x13, 0x83].map(|state| with_byte(any_filled(&mut random), 0, state));
     let last = vec![any_filled(&mut random)[..PAGE_BYTES - 1].to_vec()];
     let kinds = [blanks, firsts, filleds, seconds, bad_firsts, bad_filleds, bad_seconds, both_fills, cells_45, lacking];
-    let kinds = kinds.map(|kind| kind(&mut random));
-    kinds.into_iter().chain([states.to_vec(), filled_states.to_vec(), last]).flatten().flatten().collect()
+    let kinds = kinds.into_iter().chain([inspects, bad_inspects]);
+    let pages: Vec<_> = kinds.map(|kind| kind(&mut random)).collect();
+    pages.into_iter().chain([states.to_vec(), filled_states.to_vec(), last]).flatten().flatten().collect()
 }
 
 /// Pages of every kind in a mixed order, each kind in a number of its own, and a last piece of 255 bytes. That piece lacks
@@ -31,7 +34,7 @@ pub fn listing_pages() -> Vec<u8> {
 pub fn sheet_pages() -> Vec<u8> {
     let mut random = Random::new(SHEET_SEED);
     let kinds = [blanks, firsts, filleds, seconds, seconds_of_80, bad_firsts, bad_filleds, bad_seconds, unknown_states];
-    let kinds = kinds.into_iter().chain([both_fills, cells_45, lacking]);
+    let kinds = kinds.into_iter().chain([both_fills, cells_45, lacking, inspects, bad_inspects]);
     let pages = kinds.flat_map(|kind| kind(&mut random)).collect();
     let end = [blank(&mut random), first_page(&[0; WORDS])[..PAGE_BYTES - 1].to_vec()];
     [mixed(&mut random, pages), end.to_vec()].concat().concat()
@@ -45,20 +48,46 @@ fn mixed(random: &mut Random, mut pages: Vec<Vec<u8>>) -> Vec<Vec<u8>> {
     pages
 }
 
-/// Pages of one kind, which differ in what the kind leaves open. Second-round pages have the longest records.
-pub fn alike(kind: Kind, count: usize) -> impl Iterator<Item = Vec<u8>> {
-    let mut random = Random::new(ALIKE_SEED);
-    (0..count).map(move |_| page_of(&mut random, kind))
+/// What pages of one kind are.
+#[derive(Clone, Copy, Debug)]
+pub enum Alike {
+    /// Pages of one kind of the listing, which differ in what the kind leaves open. Second-round pages are of the fill
+    /// code, with the longest records.
+    Listed(Kind),
+    /// The page of the Inspect code with the longest record, which the listing calls second.
+    Inspect,
 }
 
-fn page_of(random: &mut Random, kind: Kind) -> Vec<u8> {
-    match kind {
-        Kind::Blank => blank(random),
-        Kind::First => any_first(random),
-        Kind::Filled => any_filled(random),
-        Kind::Second => longest_second(random),
-        Kind::Bad => any_bad(random),
+impl Alike {
+    /// The kind with this name.
+    pub fn named(name: &str) -> Option<Alike> {
+        match name {
+            "inspect" => Some(Alike::Inspect),
+            _ => Kind::named(name).map(Alike::Listed),
+        }
     }
+
+    fn page(self, random: &mut Random) -> Vec<u8> {
+        match self {
+            Alike::Listed(Kind::Blank) => blank(random),
+            Alike::Listed(Kind::First) => any_first(random),
+            Alike::Listed(Kind::Filled) => any_filled(random),
+            Alike::Listed(Kind::Second) => longest_second(random),
+            Alike::Listed(Kind::Bad) => any_bad(random),
+            Alike::Inspect => longest_inspect(),
+        }
+    }
+}
+
+/// Pages of one kind.
+pub fn alike(kind: Alike, count: usize) -> impl Iterator<Item = Vec<u8>> {
+    let mut random = Random::new(ALIKE_SEED);
+    (0..count).map(move |_| kind.page(&mut random))
+}
+
+/// The page of 176 zero bytes with a record of 247 zero bytes by the Inspect code.
+fn longest_inspect() -> Vec<u8> {
+    inspect_page(&first_page(&[0; WORDS]), &[0; INSPECT_BYTES_MOST])
 }
 
 /// A second-round page with a record of 126 bytes.
@@ -235,6 +264,44 @@ fn lacking(random: &mut Random) -> Vec<Vec<u8>> {
     filled.map(|(filled, index)| without_separator(random, filled, index)).to_vec()
 }
 
+/// Pages of the Inspect code: records of zeros and of ones at the ends of what goes in, records that walk every bit of
+/// the page, records of other kinds, and a page with no record, but for its state a first-round page.
+fn inspects(random: &mut Random) -> Vec<Vec<u8>> {
+    let [most, sparse, odd] = [0, SPARSE_VALUE, ODD_VALUE].map(|value| first_page(&[value; WORDS]));
+    let fixed = [(&most, 0, 0), (&most, 1, 0xFF), (&most, 126, 0xFF), (&most, 127, 0x00), (&most, 247, 0x00)];
+    let others = [(&sparse, 165, 0x00), (&sparse, 126, 0xFF), (&odd, 126, 0x00), (&first_taking_less(4), 247, 0x00)];
+    let fixed = fixed.into_iter().chain(others);
+    let mut pages: Vec<_> = fixed.map(|(first, length, byte)| inspect_page(first, &vec![byte; length])).collect();
+    for kind in RECORDS {
+        let first = any_first(random);
+        let record = kind(random, 127);
+        pages.push(inspect_page(&first, &longest_of(&first, record)));
+    }
+    pages.push(with_byte(any_first(random), 0, 0x09));
+    pages
+}
+
+/// Pages of state 09 that are bad 6, bad 7 and bad 9: a header byte out of its range; a sum too large, read and not read;
+/// neighbours after the last bit, in its word and in the last one; a length one bit and more too large for the walks; and
+/// pages with two of these.
+fn bad_inspects(random: &mut Random) -> Vec<Vec<u8>> {
+    let headers =
+        [(1, 248), (1, 255), (2, 1), (2, 0x80)].map(|(place, byte)| with_byte(any_inspect(random), place, byte));
+    // The record of 20 zero bytes ends before cell 25 of word 3.
+    let zeros = inspect_page(&first_page(&[0; WORDS]), &[0; 20]);
+    let sum = sum_too_large(random);
+    let sums = [0, 3, 4, 43].map(|index| with_word(zeros.clone(), index, sum));
+    let neighbours = [(3, 25), (3, 44), (4, 0), (43, 44)];
+    let pairs = neighbours.map(|(index, cell)| with_word(zeros.clone(), index, with_neighbours([false; CELLS], cell)));
+    let ones = with_byte(inspect_page(&first_page(&[0; WORDS]), &[0xFF; 126]), 1, 125);
+    let one_bit = with_byte(inspect_page(&first_taking_less(5), &[0; 246]), 1, 247);
+    let more = with_byte(inspect_page(&first_page(&[SPARSE_VALUE; WORDS]), &[0; 165]), 1, 166);
+    let sum_too = with_word(more.clone(), 43, sum);
+    let header_too = with_byte(sum_too.clone(), 2, 1);
+    let filled = with_byte(filled_page(&first_page(&[0; WORDS])), 0, 0x09);
+    [&headers, &sums, &pairs, &[ones, one_bit, more, sum_too, header_too, filled][..]].concat()
+}
+
 #[cfg(test)]
 mod tests {
     use super::*;
@@ -250,7 +317,8 @@ mod tests {
             assert!(met.contains(&format!("bad {bad}").as_str()), "bad {bad}");
         }
         let kinds = ["blank 0", "first 660", "first 1012", "filled 660", "filled 968", "filled 1012"];
-        for kind in kinds.into_iter().chain(["second 0", "second 1", "second 82", "second 121", "second 126"]) {
+        let seconds = ["second 0", "second 1", "second 82", "second 121", "second 126", "second 127", "second 247"];
+        for kind in kinds.into_iter().chain(seconds) {
             assert!(met.contains(&kind), "{kind}");
         }
     }
@@ -290,13 +358,17 @@ mod tests {
 
     /// The gain of the sheet's pages: of 4 first-round and 15 filled pages and 3 records of no byte; of records of 1, 82,
     /// 126 and twice 80 bytes; and, with words that end in cell 43, of twice 121, 82 and 40 and of three times 60 bytes.
-    const GAIN: i64 = 22 * -640 - 632 + 16 + 368 + 2 * (328 + 16 - 320) - 3 * 160;
+    const GAIN: i64 = 22 * -640 - 632 + 16 + 368 + 2 * (328 + 16 - 320) - 3 * 160 + INSPECT_GAIN;
+
+    /// The gain of the pages of the Inspect code among them: 16 records, 2 of no byte, one of 1, 4 of 126, 6 of 127, one of
+    /// 165 and 2 of 247 bytes.
+    const INSPECT_GAIN: i64 = 16 * -640 + 8 * (1 + 4 * 126 + 6 * 127 + 165 + 2 * 247);
 
     /// The five counts are different from each other and from 0, and the gain is below 0.
     #[test]
     fn the_sheet_of_the_pages() {
-        assert_eq!(sheet(&sheet_pages()), "pages 84 blank 2 first 4 filled 15 second 17 bad 46 gain -14760\n");
-        assert_eq!(GAIN, -14_760);
+        assert_eq!(sheet(&sheet_pages()), "pages 118 blank 2 first 4 filled 15 second 33 bad 64 gain -9592\n");
+        assert_eq!(GAIN, -9_592);
     }
 
     #[test]
@@ -306,7 +378,12 @@ mod tests {
         for number in [0, 1, 80, 82, 126] {
             assert!(met.contains(&(0x07, Described { kind: Kind::Second, number })), "{number}");
         }
-        for (state, numbers) in [(0x00, vec![4]), (0x01, vec![1, 6, 7]), (0x03, vec![6, 7]), (0x07, vec![6, 7, 9])] {
+        for number in [0, 1, 126, 127, 165, 247] {
+            assert!(met.contains(&(0x09, Described { kind: Kind::Second, number })), "{number}");
+        }
+        let once = [(0x00, vec![4]), (0x01, vec![1, 6, 7]), (0x03, vec![6, 7])];
+        let twice = [0x07, 0x09].map(|state| (state, vec![6, 7, 9]));
+        for (state, numbers) in once.into_iter().chain(twice) {
             let bad = met.iter().filter(|(of, page)| *of == state && page.kind == Kind::Bad);
             assert_eq!(bad.map(|(_, page)| page.number).collect::<HashSet<_>>(), HashSet::from_iter(numbers));
         }
@@ -339,18 +416,18 @@ mod tests {
         let kind = match piece[0] {
             0x01 => Kind::First,
             0x03 => Kind::Filled,
-            0x07 => Kind::Second,
+            0x07 | 0x09 => Kind::Second,
             _ => Kind::Bad,
         };
         Described { kind, number: piece.get(1).copied().map_or(0, u64::from) }
     }
 
-    /// The gain is another if the bad pages of one, two or three states count by their state, or the last piece does.
+    /// The gain is another if the bad pages of one to four states count by their state, or the last piece does.
     #[test]
     fn bad_pages_taken_by_their_state_show_in_the_gain() {
-        let states = [0x01, 0x03, 0x07];
-        for chosen in 1..8 {
-            let among = |state: u8| (0..3).any(|place| chosen >> place & 1 == 1 && states[place] == state);
+        let states = [0x01, 0x03, 0x07, 0x09];
+        for chosen in 1..16 {
+            let among = |state: u8| (0..4).any(|place| chosen >> place & 1 == 1 && states[place] == state);
             let taken = |piece: &[u8], page| if among(piece[0]) { by_the_state(piece) } else { page };
             assert_ne!(gain_if(taken), GAIN, "{chosen}");
         }
@@ -362,7 +439,7 @@ mod tests {
     #[test]
     fn the_last_piece_of_the_sheet() {
         let pages = sheet_pages();
-        let (whole, last) = pages.split_at(83 * PAGE_BYTES);
+        let (whole, last) = pages.split_at(117 * PAGE_BYTES);
         assert_eq!((last.len(), whole.ends_with(&[0])), (PAGE_BYTES - 1, true));
         assert_eq!(described(&[last, &[0]].concat()), Described { kind: Kind::First, number: 1_012 });
     }
@@ -370,15 +447,44 @@ mod tests {
     #[test]
     fn pages_of_one_kind() {
         for kind in Kind::ALL {
-            let pages: Vec<_> = alike(kind, 300).collect();
+            let pages: Vec<_> = alike(Alike::Listed(kind), 300).collect();
             assert!(pages.iter().all(|page| page.len() == PAGE_BYTES && described(page).kind == kind));
             let different = HashSet::<&Vec<u8>>::from_iter(&pages).len();
             assert!(if kind == Kind::Blank { different == 1 } else { different > 200 }, "{kind:?} {different}");
         }
-        assert!(alike(Kind::Second, 300).all(|page| described(&page).number == 126));
-        let bad: HashSet<_> = alike(Kind::Bad, 300).map(|page| (page[0], described(&page).number)).collect();
-        let wanted = [(0x00, 4), (0x01, 6), (0x01, 7), (0x03, 6), (0x03, 7), (0x07, 6), (0x07, 7), (0x07, 9)];
-        assert!(bad.is_superset(&HashSet::from(wanted)) && bad.iter().any(|(_, number)| *number == 5));
+        assert!(alike(Alike::Listed(Kind::Second), 300).all(|page| described(&page).number == 126));
+        let bad: HashSet<_> =
+            alike(Alike::Listed(Kind::Bad), 300).map(|page| (page[0], described(&page).number)).collect();
+        let once = [(0x00, 4), (0x01, 6), (0x01, 7), (0x03, 6), (0x03, 7)];
+        let twice = [0x07, 0x09].into_iter().flat_map(|state| [6, 7, 9].map(|number| (state, number)));
+        assert!(once.into_iter().chain(twice).all(|one| bad.contains(&one)), "{bad:?}");
+        assert!(bad.iter().any(|(_, number)| *number == 5));
+    }
+
+    /// The one page has the gain −640 + 8 · 247.
+    #[test]
+    fn pages_of_the_inspect_code_with_the_longest_record() {
+        let kind = Alike::named("inspect").expect("a name");
+        let page = inspect_page(&first_page(&[0; WORDS]), &[0; 247]);
+        assert_eq!(alike(kind, 3).collect::<Vec<_>>(), [&page[..]; 3]);
+        assert_eq!(described(&page), Described { kind: Kind::Second, number: 247 });
+        assert_eq!(gain(described(&page)), 1_336);
+    }
+
+    /// Good and bad pages of state 09: each refusal of the reader, byte 1 and byte 2 each by itself, and the lengths at the
+    /// ends.
+    #[test]
+    fn pages_of_state_09() {
+        let pages = listing_pages();
+        let inspected = pages.chunks(PAGE_BYTES).filter(|piece| piece.len() == PAGE_BYTES && piece[0] == 0x09);
+        let met: Vec<_> = inspected.map(|page| (page[1], page[2], described(page).to_string())).collect();
+        for length in [0, 126, 127, 247] {
+            assert!(met.contains(&(length, 0, format!("second {length}"))), "{length}");
+        }
+        let bad = |number: u8| met.iter().filter(|(.., text)| *text == format!("bad {number}")).count();
+        assert_eq!((met.len(), bad(6), bad(7), bad(9)), (34, 5, 11, 2));
+        assert!(met.contains(&(248, 0, "bad 6".to_string())) && met.contains(&(255, 0, "bad 6".to_string())));
+        assert!(met.iter().any(|(length, byte, _)| *length <= 247 && *byte == 1));
     }
 
     #[test]

@@ -28,6 +28,7 @@ pub fn sheet(input: &[u8]) -> String {
 #[cfg(test)]
 mod tests {
     use super::*;
+    use crate::cases::inspect::inspect_page;
     use crate::cases::pages::{
         any_page, filled_page, first_page, second_page, with_byte, with_data_cell, with_word, written_over, FILLINGS,
     };
@@ -115,6 +116,32 @@ mod tests {
         }
     }
 
+    /// "The listing and the gain sheet count state 09 as second."
+    #[test]
+    fn second_round_pages_of_the_inspect_code() {
+        let zeros = [(0, -640), (1, -632), (79, -8), (80, 0), (81, 8), (126, 368), (127, 376), (247, 1_336)];
+        let zeros = zeros.map(|(length, gain)| (vec![0x00; length], gain));
+        for (record, gain) in zeros.into_iter().chain([(vec![0xFF; 126], 368), (vec![0x96; 80], 0)]) {
+            let text = format!("pages 1 blank 0 first 0 filled 0 second 1 bad 0 gain {gain}\n");
+            assert_eq!(sheet(&inspect_page(&most(), &record)), text);
+        }
+    }
+
+    #[test]
+    fn bad_pages_of_the_inspect_code() {
+        let (page, sparse) = (inspect_page(&most(), &[0; 80]), first_page(&[SPARSE_VALUE; WORDS]));
+        let bad = [
+            with_byte(page.clone(), 1, 248),
+            with_byte(page.clone(), 2, 1),
+            with_word(page, 43, [true; CELLS]),
+            with_byte(filled_page(&most()), 0, 0x09),
+            with_byte(inspect_page(&sparse, &[0; 165]), 1, 166),
+        ];
+        for page in bad {
+            assert_eq!(sheet(&page), ONE_BAD, "{:?}", &page[..3]);
+        }
+    }
+
     #[test]
     fn bad_pages_of_every_state() {
         let filled = filled_page(&most());
@@ -142,14 +169,14 @@ mod tests {
 
     #[test]
     fn unknown_states() {
-        for state in (0..=255).filter(|state| ![0x00, 0x01, 0x03, 0x07].contains(state)) {
+        for state in (0..=255).filter(|state| ![0x00, 0x01, 0x03, 0x07, 0x09].contains(state)) {
             for page in [most(), filled_page(&most()), second_page(&most(), &[0x96; 126])] {
                 assert_eq!(sheet(&with_byte(page, 0, state)), ONE_BAD);
             }
         }
     }
 
-    /// "up to 4,096 pages": a page more, and a byte more. These are the least and the most gain.
+    /// "up to 4,096 pages": a page more, and a byte more. These are the least gain, the most by the fill code, and the most.
     #[test]
     fn stops_after_4096_pages() {
         let firsts = "pages 4096 blank 0 first 4096 filled 0 second 0 bad 0 gain -2621440\n";
@@ -157,6 +184,9 @@ mod tests {
         let second = second_page(&most(), &[0x96; 126]);
         let seconds = "pages 4096 blank 0 first 0 filled 0 second 4096 bad 0 gain 1507328\n";
         assert_eq!(sheet(&[second.repeat(PAGES_MOST), vec![0x07]].concat()), seconds);
+        let inspect = inspect_page(&most(), &[0; 247]);
+        let inspects = "pages 4096 blank 0 first 0 filled 0 second 4096 bad 0 gain 5472256\n";
+        assert_eq!(sheet(&[inspect.repeat(PAGES_MOST), vec![0x09]].concat()), inspects);
     }
 
     #[test]

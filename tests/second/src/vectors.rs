@@ -1,5 +1,7 @@
 //! The fixed calls of the vectors, and their two files.
 
+mod inspect;
+
 use crate::answer::{number, value};
 use crate::call::{Call, Entry};
 use crate::cases::damage::{any_word_call, choices, combined};
@@ -27,6 +29,9 @@ const LENGTH_MOST: usize = 1_024;
 /// Words at the ends of a page, at the ends of a byte, and between.
 const INDICES: [usize; 8] = [0, 1, 3, 4, 21, 22, 42, 43];
 
+/// The entries that take a first-round page, but for that of the Inspect code.
+const OF_FIRST_PAGES: [Entry; 3] = [Entry::ReadFirst, Entry::PageCapacity, Entry::FillPage];
+
 /// The value whose word has cell 0 alone set, between its neighbours.
 const CELL_0_VALUES: [u32; 3] = [ODD_VALUE, 2_971_215_073, EDGE_VALUE];
 
@@ -47,7 +52,7 @@ fn end_calls() -> Vec<Call> {
     script.calls
 }
 
-/// All calls of the vectors.
+/// All calls of the vectors; those of the Inspect code come last.
 pub fn calls() -> Vec<Call> {
     let mut script = Script { random: Random::new(SEED), calls: Vec::new() };
     script.listed_words();
@@ -78,6 +83,7 @@ pub fn calls() -> Vec<Call> {
     script.files();
     script.pages_lengths();
     script.calls.splice(before_the_files..before_the_files, end_calls());
+    script.calls.extend(inspect::calls());
     script.calls
 }
 
@@ -226,7 +232,7 @@ impl Script {
             let sums = [cells_with_sum(LARGEST_VALUE + 1), sum_too_large(&mut self.random)];
             for (turn, damaged) in pairs.into_iter().chain(sums).enumerate() {
                 let page = with_word(first.clone(), index, damaged);
-                let entry = Entry::OF_FIRST_PAGES[(turn + index) % 3];
+                let entry = OF_FIRST_PAGES[(turn + index) % 3];
                 self.page_with(entry, &page, if entry == Entry::ReadFirst { FIRST_BYTES } else { 20 });
                 if turn == 1 {
                     let two = with_word(page, WORDS - 1, sum_too_large(&mut self.random));
@@ -279,7 +285,7 @@ impl Script {
         for turn in 0..14 {
             let bit = self.random.between(24, 8 * PAGE_BYTES - 1);
             let first = with_flip(any_first(&mut self.random), bit);
-            self.page_with(Entry::OF_FIRST_PAGES[turn % 3], &first, 30);
+            self.page_with(OF_FIRST_PAGES[turn % 3], &first, 30);
             let filled = with_flip(any_filled(&mut self.random), bit);
             self.page_with(Entry::OF_FILLED_PAGES[turn % 2], &filled, 30);
             let second = with_flip(any_second(&mut self.random), bit);
@@ -307,7 +313,7 @@ impl Script {
         let header_bytes = [(1, 1), (1, 126), (1, 127), (1, 255), (2, 1), (2, 128)];
         for (place, byte) in states.into_iter().chain(header_bytes) {
             let first = with_byte(any_first(&mut self.random), place, byte);
-            for entry in Entry::OF_FIRST_PAGES {
+            for entry in OF_FIRST_PAGES {
                 self.page_with(entry, &first, 9);
             }
             let filled = with_byte(any_filled(&mut self.random), place, byte);
@@ -330,7 +336,8 @@ impl Script {
     /// Valid pages of another state than the entry's.
     fn other_rounds(&mut self) {
         let pages = [blank, any_first, any_filled, any_second].map(|page| page(&mut self.random));
-        for (entry, page) in Entry::OF_PAGES.into_iter().flat_map(|entry| pages.iter().map(move |page| (entry, page))) {
+        let entries = Entry::OF_PAGES.into_iter().filter(|entry| !Entry::OF_INSPECT.contains(entry));
+        for (entry, page) in entries.flat_map(|entry| pages.iter().map(move |page| (entry, page))) {
             if !entry.states().contains(&page[0]) {
                 self.page_with(entry, page, if entry == Entry::WriteSecond { 1 } else { FIRST_BYTES });
             }
@@ -351,7 +358,7 @@ impl Script {
     /// Wrong lengths of the page.
     fn page_lengths(&mut self) {
         for length in WRONG_PAGE_LENGTHS {
-            for entry in Entry::OF_FIRST_PAGES {
+            for entry in OF_FIRST_PAGES {
                 let first = any_first(&mut self.random);
                 let page = resized(&mut self.random, first, length);
                 self.page_with(entry, &page, 11);
@@ -393,14 +400,18 @@ impl Script {
         }
     }
 
-    /// Every choice of conditions at once, so that the order of refusals shows. The calls of write file come last.
-    fn orders(&mut self) {
-        for entry in Entry::ALL.into_iter().filter(|&entry| entry != Entry::WriteFile) {
-            for chosen in 0..choices(entry) {
-                let call = combined(&mut self.random, entry, chosen);
-                self.add(call);
-            }
+    /// Every choice of the entry's conditions at once, so that the order of refusals shows.
+    fn orders_of(&mut self, entry: Entry) {
+        for chosen in 0..choices(entry) {
+            let call = combined(&mut self.random, entry, chosen);
+            self.add(call);
         }
+    }
+
+    /// The orders of every entry but write file and those of the Inspect code, whose calls come last.
+    fn orders(&mut self) {
+        let later = |entry: &Entry| *entry == Entry::WriteFile || Entry::OF_INSPECT.contains(entry);
+        Entry::ALL.into_iter().filter(|entry| !later(entry)).for_each(|entry| self.orders_of(entry));
     }
 
     /// Values at the ends and anywhere, and words of every kind.
@@ -590,16 +601,21 @@ mod tests {
     #[test]
     fn size_and_variety() {
         let calls = calls();
-        assert_eq!(calls.len(), 1_169);
-        assert!(text_of(&calls).len() < 280_000);
+        assert_eq!(calls.len(), 1_588);
+        assert!(text_of(&calls).len() < 420_000);
         assert!(calls.iter().all(|call| call.page.len().max(call.other.len()) <= LENGTH_MOST));
         let pages: HashSet<_> = calls.iter().map(|call| &call.page).filter(|page| page.len() == PAGE_BYTES).collect();
-        assert_eq!(pages.len(), 627);
+        assert_eq!(pages.len(), 913);
     }
 
+    /// Before the calls of write file come those of all other entries but the Inspect code's; after them, those about that
+    /// code.
     #[test]
-    fn the_calls_of_write_file_come_last() {
-        assert!((0..).zip(calls()).all(|(index, call)| (call.entry == Entry::WriteFile) == (index >= 1_143)));
+    fn the_calls_of_write_file_and_of_the_inspect_code_come_last() {
+        for (index, call) in calls().into_iter().enumerate() {
+            assert_eq!(call.entry == Entry::WriteFile, (1_143..1_169).contains(&index), "{index}");
+            assert!(index >= 1_169 || !Entry::OF_INSPECT.contains(&call.entry), "{index}");
+        }
     }
 
     /// The pages' length, the output's, and the answer.

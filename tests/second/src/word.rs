@@ -56,7 +56,7 @@ pub fn sum(cells: &Cells) -> u64 {
     (0..CELLS).filter(|&cell| cells[cell]).map(weight).sum()
 }
 
-fn has_neighbours(cells: &Cells) -> bool {
+pub fn has_neighbours(cells: &Cells) -> bool {
     cells.windows(2).any(|pair| pair[0] && pair[1])
 }
 

@@ -38,6 +38,8 @@ extern "C" {
     fn wom_fill_page(page: *mut u8, page_length: usize) -> u64;
     fn wom_write_second(page: *mut u8, page_length: usize, record: *const u8, record_length: usize) -> u64;
     fn wom_read_second(page: *const u8, page_length: usize, out: *mut u8, out_length: usize) -> u64;
+    fn wom_write_inspect(page: *mut u8, page_length: usize, record: *const u8, record_length: usize) -> u64;
+    fn wom_read_inspect(page: *const u8, page_length: usize, out: *mut u8, out_length: usize) -> u64;
     fn wom_write_file(device: u32, pages: *const u8, pages_length: usize, out: *mut u8, out_length: usize) -> u64;
 }
 
@@ -57,6 +59,8 @@ fn perform(call: &Call, page: Span, other: Span) -> u64 {
             Entry::FillPage => wom_fill_page(page.start, page.length),
             Entry::WriteSecond => wom_write_second(page.start, page.length, other.start, other.length),
             Entry::ReadSecond => wom_read_second(page.start, page.length, other.start, other.length),
+            Entry::WriteInspect => wom_write_inspect(page.start, page.length, other.start, other.length),
+            Entry::ReadInspect => wom_read_inspect(page.start, page.length, other.start, other.length),
             Entry::WriteFile => {
                 wom_write_file(call.argument as u32, page.start, page.length, other.start, other.length)
             }

@@ -4,18 +4,19 @@
 use second::cases::pages::any_page;
 use second::command::command;
 use second::file::{file_bytes, write_file, FILE_PAGES_MOST};
-use second::listing::{listing, Kind, PAGES_MOST};
+use second::listing::{listing, PAGES_MOST};
 use second::page::PAGE_BYTES;
 use second::random::Random;
+use second::samples::{self, Alike};
 use second::sheet::sheet;
-use second::{samples, vectors};
+use second::vectors;
 use std::fs;
 use std::io::{self, Read, Write};
 use std::path::Path;
 use std::process::ExitCode;
 
 const USAGE: &str = "usage: generate vectors DIR | listing DIR | sheet DIR | pages SEED COUNT EXTRA | \
-                     alike blank|first|filled|second|bad COUNT | list | gain | file DEVICE";
+                     alike blank|first|filled|second|bad|inspect COUNT | list | gain | file DEVICE";
 
 /// Writes the two files of a test.
 fn write_test(folder: &str, input: &[u8], text: &str) -> io::Result<()> {
@@ -51,7 +52,7 @@ fn write_pages(seed: u64, count: usize, extra: u8) -> io::Result<()> {
 }
 
 /// Writes `count` pages of this kind to standard output.
-fn write_alike(kind: Kind, count: usize) -> io::Result<()> {
+fn write_alike(kind: Alike, count: usize) -> io::Result<()> {
     let mut output = io::BufWriter::new(io::stdout().lock());
     for page in samples::alike(kind, count) {
         output.write_all(&page)?;
@@ -88,7 +89,7 @@ fn asked(arguments: &[&str]) -> Option<ExitCode> {
         ["listing", folder] => write_listing(folder),
         ["sheet", folder] => write_sheet(folder),
         ["pages", seed, count, extra] => write_pages(seed.parse().ok()?, count.parse().ok()?, extra.parse().ok()?),
-        ["alike", kind, count] => write_alike(Kind::named(kind)?, count.parse().ok()?),
+        ["alike", kind, count] => write_alike(Alike::named(kind)?, count.parse().ok()?),
         ["list"] => print(listing),
         ["gain"] => print(sheet),
         ["file", device] => file(device.parse().ok()?),

@@ -1,6 +1,7 @@
 //! Sound calls, and calls damaged in the direction of chosen refusals, so that the order of refusals shows.
 
 use super::files::{any_device, any_pages};
+use super::inspect::{self, bytes_taken, inspect_page, record_for, with_length_too_large, with_unsound_word};
 use super::lengths::{resized, wrong_data_length, wrong_page_length, wrong_pages_length};
 use super::pages::{
     any_first, any_record, blank, filled_page, filled_page_earlier, first_and_record, most_bytes, with_data_cell,
@@ -9,7 +10,10 @@ use super::pages::{
 use super::words::{any_argument, any_value, illegal, sum_too_large, with_hole, with_neighbours, Hole};
 use crate::call::{Call, Entry};
 use crate::file::file_bytes;
-use crate::page::{data_cells_of, words_of, FILLED, FIRST_BYTES, FIRST_ROUND, PAGE_BYTES, WORDS};
+use crate::inspect::INSPECT_BYTES_MOST;
+use crate::page::{
+    data_cells_of, words_of, FILLED, FIRST_BYTES, FIRST_ROUND, INSPECTED, PAGE_BYTES, SECOND_BYTES_MOST, WORDS,
+};
 use crate::random::Random;
 use crate::word::{cells_of, legal_word, number_of, CELLS};
 
@@ -48,6 +52,17 @@ fn sound_by(random: &mut Random, entry: Entry, fill: Filling) -> Call {
             let length = record.len() + random.below(3);
             Call::of_page(entry, page, random.bytes(length)).filled_from(&first)
         }
+        Entry::WriteInspect => {
+            let first = any_first(random);
+            let record = record_for(random, &first, 0);
+            Call::of_page(entry, first, record)
+        }
+        Entry::ReadInspect => {
+            let first = any_first(random);
+            let record = record_for(random, &first, 1);
+            let length = record.len() + random.below(3);
+            Call::of_page(entry, inspect_page(&first, &record), random.bytes(length))
+        }
         Entry::WriteFile => {
             let pages = any_pages(random);
             let length = file_bytes(pages.len() / PAGE_BYTES) + random.below(3);
@@ -79,34 +94,56 @@ fn set_state(random: &mut Random, call: &mut Call) {
     call.page[0] = if call.entry.states().contains(&state) { !state } else { state };
 }
 
+/// The most that byte 1 may be on a page of the entry.
+fn longest_named(entry: Entry) -> usize {
+    match entry {
+        Entry::ReadSecond => SECOND_BYTES_MOST,
+        Entry::ReadInspect => INSPECT_BYTES_MOST,
+        _ => 0,
+    }
+}
+
 /// Byte 1 or byte 2 out of its range.
 fn set_header(random: &mut Random, call: &mut Call) {
     if random.one_in(2) {
         call.page[2] = random.byte_from(1);
     } else {
-        call.page[1] = random.byte_from(if call.entry == Entry::ReadSecond { 127 } else { 1 });
+        call.page[1] = random.byte_from(longest_named(call.entry) as u8 + 1);
     }
 }
 
-/// A word that is not as the page's state asks for: not legal, not well formed, or with a data cell set.
+/// A word that is not as the page's state asks for: not legal, not well formed, with a data cell set, or not legal with
+/// the read pairs put to 00.
 fn set_word(random: &mut Random, call: &mut Call) {
     let page = std::mem::take(&mut call.page);
     let (index, hole) = (random.below(WORDS), random.pick(&Hole::ALL));
     call.page = match page[0] {
         FIRST_ROUND => with_word(page, index, illegal(random)),
         FILLED => with_flaw(random, page),
+        INSPECTED => with_unsound_word(random, page),
         _ => with_word(page, index, with_hole(random, hole)),
     };
 }
 
 /// More bytes than fit.
 fn lengthen_record(random: &mut Random, call: &mut Call) {
-    let length = most_bytes(&call.page) + 1 + random.pick(&[0, 0, 1, 40, 256]);
-    call.other = any_record(random, length);
+    let more = 1 + random.pick(&[0, 0, 1, 40, 256]);
+    if call.entry == Entry::WriteInspect {
+        // What fits by the Inspect code depends on the record.
+        call.other = inspect::any_record(random, INSPECT_BYTES_MOST + 257);
+        call.other.truncate(bytes_taken(&call.page, &call.other) + more);
+    } else {
+        call.other = any_record(random, most_bytes(&call.page) + more);
+    }
 }
 
-/// A byte 1 too large for the data cells, where the page has so few, or else a spare data cell set.
+/// A byte 1 too large for the data cells, where the page has so few, or else a spare data cell set; on a page of the
+/// Inspect code, a byte 1 too large for the walks.
 fn spoil_data_cells(random: &mut Random, call: &mut Call) {
+    if call.entry == Entry::ReadInspect {
+        call.page = with_length_too_large(random, std::mem::take(&mut call.page));
+        return;
+    }
     let found = data_cells_of(&words_of(&call.page)).len();
     let fit = found / 8;
     if fit < 126 && random.one_in(2) {

@@ -2,17 +2,22 @@
 
 use super::damage::{combined, sound};
 use super::files::{any_device, any_pages};
+use super::inspect::{inspect_page, RECORDS};
 use super::lengths::resized;
-use super::pages::{any_filled, filled_page, first_page, second_page};
+use super::pages::{any_first, filled_page, first_page, second_page};
 use super::words::SPARSE_VALUE;
 use crate::answer::Answer;
 use crate::call::{Call, Entry};
 use crate::file::{file_bytes, FILE_PAGES_MOST};
+use crate::inspect::INSPECT_BYTES_MOST;
 use crate::memory::FAR_BYTES;
 use crate::page::{FIRST_BYTES, PAGE_BYTES, SECOND_BYTES_MOST, WORDS};
 use crate::random::Random;
 
 const SEED: u64 = 2_024;
+
+/// How many bytes a writer may move at once, from the one with the next bit on: a caller's record is there whole.
+const MOVED_AT_ONCE: usize = 8;
 
 /// Far lengths are one of these and a low part; cut to fewer bits, the low part is what is left of them.
 const HIGH_PARTS: [usize; 6] = [1 << 8, 1 << 16, 1 << 31, 1 << 32, 1 << 40, 1 << 45];
@@ -61,12 +66,15 @@ impl FarCall {
         self.other.unwrap_or(self.near.other.len())
     }
 
-    /// The number of bytes of the far output that are looked at: those of the record or the file. The rules refuse a
-    /// page, pages, data and a record of a far length by the length alone.
+    /// The number of bytes of the far buffer that may be looked at: of an output, those of the record or the file; of a
+    /// record for the Inspect code, those that walks could take, for what 8 names hangs on its bits, and the few bytes
+    /// after them that come with the last ones where eight are moved at once. The rules refuse a page, pages, data and a
+    /// record for the fill code of a far length by the length alone.
     pub fn touched(&self, answer: Answer) -> usize {
         match (self.near.entry, answer) {
+            (Entry::WriteInspect, _) if self.page.is_none() => self.near.other.len(),
             (Entry::ReadFirst, Ok(_)) => FIRST_BYTES,
-            (Entry::ReadSecond | Entry::WriteFile, Ok(length)) => length as usize,
+            (Entry::ReadSecond | Entry::ReadInspect | Entry::WriteFile, Ok(length)) => length as usize,
             _ => 0,
         }
     }
@@ -87,7 +95,7 @@ fn far_pages_lengths() -> Vec<usize> {
 fn low_part(entry: Entry) -> usize {
     match entry {
         Entry::WriteFirst => FIRST_BYTES,
-        Entry::WriteSecond => 20,
+        Entry::WriteSecond | Entry::WriteInspect => 20,
         _ => 0,
     }
 }
@@ -97,6 +105,8 @@ fn near_length(entry: Entry) -> usize {
     match entry {
         Entry::WriteFirst => FIRST_BYTES + 1,
         Entry::WriteSecond => SECOND_BYTES_MOST + 1,
+        Entry::WriteInspect => INSPECT_BYTES_MOST + MOVED_AT_ONCE,
+        Entry::ReadInspect => INSPECT_BYTES_MOST,
         _ => FIRST_BYTES,
     }
 }
@@ -119,7 +129,7 @@ pub fn calls() -> Vec<FarCall> {
     Entry::OF_PAGES.into_iter().for_each(|entry| walk.pages(entry));
     Entry::WITH_OTHER.into_iter().for_each(|entry| walk.others(entry));
     Entry::WITH_OTHER.into_iter().for_each(|entry| walk.both(entry));
-    [0, 1, 82, 126].into_iter().for_each(|record| walk.outputs(record));
+    walk.outputs();
     walk.records();
     walk.file_pages();
     [0, 1, FILE_PAGES_MOST].into_iter().for_each(|count| walk.file_outputs(count));
@@ -166,30 +176,44 @@ impl Walk {
         }
     }
 
-    /// Outputs of every far length for a record of this length.
-    fn outputs(&mut self, record: usize) {
-        let second = second_page(&first_page(&[0; WORDS]), &self.random.bytes(record));
-        for length in far_lengths(low_part(Entry::ReadSecond)) {
-            let output = self.random.bytes(near_length(Entry::ReadSecond));
-            let near = Call::of_page(Entry::ReadSecond, second.clone(), output);
+    /// Outputs of every far length for records of the least, a middle and the greatest length by each code.
+    fn outputs(&mut self) {
+        let first = first_page(&[0; WORDS]);
+        for record in [0, 1, 82, 126] {
+            let second = second_page(&first, &self.random.bytes(record));
+            self.outputs_of(Entry::ReadSecond, &second);
+        }
+        for record in [0, 1, 126, INSPECT_BYTES_MOST] {
+            let zeros = vec![0; record];
+            self.outputs_of(Entry::ReadInspect, &inspect_page(&first, &zeros));
+        }
+    }
+
+    /// Outputs of every far length for the record of this page.
+    fn outputs_of(&mut self, entry: Entry, page: &[u8]) {
+        for length in far_lengths(low_part(entry)) {
+            let output = self.random.bytes(near_length(entry));
+            let near = Call::of_page(entry, page.to_vec(), output);
             self.calls.push(FarCall { near, page: None, other: Some(length) });
         }
     }
 
-    /// Records of which 8 times the length is cut, over this filled page.
-    fn records_over(&mut self, filled: &[u8]) {
-        for length in WRAPPED_LENGTHS {
-            let record = self.random.bytes(near_length(Entry::WriteSecond));
-            let near = Call::of_page(Entry::WriteSecond, filled.to_vec(), record);
+    /// Records of each kind of which 8 times the length is cut, over this page.
+    fn records_over(&mut self, entry: Entry, page: &[u8]) {
+        for (turn, length) in WRAPPED_LENGTHS.into_iter().enumerate() {
+            let record = RECORDS[turn % RECORDS.len()](&mut self.random, near_length(entry));
+            let near = Call::of_page(entry, page.to_vec(), record);
             self.calls.push(FarCall { near, page: None, other: Some(length) });
         }
     }
 
-    /// Such records over the least, the most and a middle capacity.
+    /// Such records over the least, the most and a middle capacity, by each code.
     fn records(&mut self) {
-        let any = any_filled(&mut self.random);
-        let [least, most] = [SPARSE_VALUE, 0].map(|value| filled_page(&first_page(&[value; WORDS])));
-        [least, most, any].iter().for_each(|filled| self.records_over(filled));
+        let any = any_first(&mut self.random);
+        for first in [first_page(&[SPARSE_VALUE; WORDS]), first_page(&[0; WORDS]), any] {
+            self.records_over(Entry::WriteSecond, &filled_page(&first));
+            self.records_over(Entry::WriteInspect, &first);
+        }
     }
 
     /// A call of write file with any pages of this length, and an output of the other.
@@ -256,7 +280,7 @@ mod tests {
 
     #[test]
     fn the_number_of_calls() {
-        assert_eq!(calls().len(), 490);
+        assert_eq!(calls().len(), 693);
     }
 
     #[test]
@@ -282,7 +306,7 @@ mod tests {
             let wanted: &[u8] = match far.near.entry {
                 Entry::WriteFirst => &[1, 2],
                 Entry::ReadFirst => &[0, 1, 5, 6, 7],
-                Entry::WriteSecond => &[1, 5, 6, 7, 8],
+                Entry::WriteSecond | Entry::WriteInspect => &[1, 5, 6, 7, 8],
                 Entry::WriteFile => &[0, 13],
                 _ => &[0, 1, 5, 6, 7, 9],
             };
@@ -299,6 +323,20 @@ mod tests {
         }
     }
 
+    /// Of a far record for the Inspect code, all that walks could take can be touched: 8 names the same bits with any
+    /// record that starts so.
+    #[test]
+    fn a_far_record_for_the_inspect_code() {
+        let records =
+            answered().into_iter().filter(|(far, _)| far.near.entry == Entry::WriteInspect && far.page.is_none());
+        for (far, answer) in records {
+            assert_eq!(far.touched(answer), 255);
+            let longer = Call { other: [&far.near.other[..], &[0xFF; 9]].concat(), ..far.near.clone() };
+            assert_eq!(longer.clone().perform(), answer);
+            assert!(far.other_length() > longer.other.len());
+        }
+    }
+
     /// Two far buffers each take a half of what is reserved.
     #[test]
     fn two_far_buffers_do_not_overlap() {
@@ -310,7 +348,9 @@ mod tests {
     #[test]
     fn lengths_that_look_otherwise_in_32_bits() {
         let low = |length: usize| length as u32 as usize;
-        for (entry, wanted) in [(Entry::WriteFirst, FIRST_BYTES), (Entry::WriteSecond, 20), (Entry::ReadFirst, 0)] {
+        let records = [(Entry::WriteSecond, 20), (Entry::WriteInspect, 20)];
+        let others = [(Entry::WriteFirst, FIRST_BYTES), (Entry::ReadFirst, 0), (Entry::ReadInspect, 0)];
+        for (entry, wanted) in records.into_iter().chain(others) {
             let of_entry = |far: &FarCall| far.near.entry == entry && far.page.is_none();
             let met =
                 |far: FarCall| of_entry(&far) && far.other_length() > 1 << 32 && low(far.other_length()) == wanted;

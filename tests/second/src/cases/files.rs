@@ -13,20 +13,20 @@ pub const DEVICES: [u32; 5] = [0, 1, 0x0102_0304, 0x8000_0000, u32::MAX];
 /// The start of a file, and a field of each tag.
 const FIELDS: [u8; 15] = [0xF1, 0xB0, 0x02, 0x00, 0x04, 1, 2, 3, 4, 0x01, 0x01, 0x00, 0x7F, 0x00, 0x00];
 
-/// Makes pages of this many bytes in all; the last one may be cut.
+/// Makes pages of this many bytes in all, of which the last one may be cut; or a record.
 pub type Contents = fn(&mut Random, usize) -> Vec<u8>;
 
 pub const CONTENTS: [Contents; 7] = [zeros, ones, any_bytes, numbered, firsts, of_any_kind, fields];
 
-fn zeros(_: &mut Random, length: usize) -> Vec<u8> {
+pub fn zeros(_: &mut Random, length: usize) -> Vec<u8> {
     vec![0; length]
 }
 
-fn ones(_: &mut Random, length: usize) -> Vec<u8> {
+pub fn ones(_: &mut Random, length: usize) -> Vec<u8> {
     vec![0xFF; length]
 }
 
-fn any_bytes(random: &mut Random, length: usize) -> Vec<u8> {
+pub fn any_bytes(random: &mut Random, length: usize) -> Vec<u8> {
     random.bytes(length)
 }
 

@@ -69,6 +69,16 @@ fn record_length(random: &mut Random) -> usize {
     }
 }
 
+/// The length of a record of the Inspect code, of which 126 bytes always go in and 247 at most.
+fn inspect_length(random: &mut Random) -> usize {
+    match random.below(16) {
+        0 => random.pick(&FAR_RECORD_LENGTHS),
+        1 => random.between(124, 128),
+        2 => random.between(245, 250),
+        _ => random.between(0, 256),
+    }
+}
+
 /// One short, exact, longer, 0, or any.
 fn output_length(random: &mut Random, needed: usize) -> usize {
     let any = random.below(200);
@@ -82,7 +92,10 @@ pub fn other_length(random: &mut Random, entry: Entry, page: &[u8]) -> usize {
         Entry::WriteFirst => data_length(random),
         Entry::ReadFirst => output_length(random, FIRST_BYTES),
         Entry::WriteSecond => record_length(random),
-        Entry::ReadSecond => output_length(random, page.get(1).map_or(0, |&length| usize::from(length))),
+        Entry::WriteInspect => inspect_length(random),
+        Entry::ReadSecond | Entry::ReadInspect => {
+            output_length(random, page.get(1).map_or(0, |&length| usize::from(length)))
+        }
         Entry::WriteFile => output_length(random, file_bytes(page.len() / PAGE_BYTES)),
         _ => 0,
     }

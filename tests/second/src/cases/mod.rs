@@ -3,6 +3,7 @@
 pub mod damage;
 pub mod far;
 pub mod files;
+pub mod inspect;
 pub mod lengths;
 pub mod pages;
 pub mod systematic;
@@ -33,6 +34,6 @@ fn any_page_call(random: &mut Random, entry: Entry) -> Call {
         page = lengths::resized(random, page, length);
     }
     let length = lengths::other_length(random, entry, &page);
-    let other = pages::any_record(random, length);
+    let other = if entry == Entry::WriteInspect { inspect::any_record } else { pages::any_record }(random, length);
     Call::of_page(entry, page, other)
 }

@@ -1,8 +1,9 @@
 //! Pages for the calls: of every state, valid and damaged, and as versions before Change 6 left them.
 
+use super::inspect::{any_inspect, INSPECT_KINDS};
 use super::words::{self, any_value, value_with_pulses, Hole, SPARSE_VALUE};
 use crate::call::Entry;
-use crate::page::{self, FILLED, FIRST_ROUND, PAGE_BYTES, SECOND_BYTES_MOST, SECOND_ROUND, WORDS};
+use crate::page::{self, FILLED, FIRST_ROUND, INSPECTED, PAGE_BYTES, SECOND_BYTES_MOST, SECOND_ROUND, WORDS};
 use crate::random::Random;
 use crate::word::{self, Cells, CELLS, LAST_CELL};
 
@@ -184,7 +185,7 @@ fn first_with_illegal_word(random: &mut Random) -> Vec<u8> {
     with_word(page, index, words::illegal(random))
 }
 
-fn flipped(random: &mut Random, page: Vec<u8>) -> Vec<u8> {
+pub fn flipped(random: &mut Random, page: Vec<u8>) -> Vec<u8> {
     with_flip(page, random.below(8 * PAGE_BYTES))
 }
 
@@ -338,16 +339,17 @@ fn second_of_any_cells(random: &mut Random) -> Vec<u8> {
 
 /// A valid page of one state under the state byte of another, or of none.
 fn any_state(random: &mut Random) -> Vec<u8> {
-    let page = random.pick::<Maker>(&[blank, any_first, any_filled, any_second])(random);
+    let page = random.pick::<Maker>(&[blank, any_first, any_filled, any_second, any_inspect])(random);
     let any = random.byte();
-    with_byte(page, 0, random.pick(&[0x00, 0x01, 0x03, 0x07, any, any, any]))
+    with_byte(page, 0, random.pick(&[0x00, 0x01, 0x03, 0x07, 0x09, any, any, any]))
 }
 
 fn any_bytes(random: &mut Random) -> Vec<u8> {
     random.bytes(PAGE_BYTES)
 }
 
-type Maker = fn(&mut Random) -> Vec<u8>;
+/// Makes a page of some kind.
+pub type Maker = fn(&mut Random) -> Vec<u8>;
 
 const BLANK_KINDS: [Maker; 4] = [blank, blank, blank, blank_with_byte];
 const FIRST_KINDS: [Maker; 7] =
@@ -391,8 +393,9 @@ const OTHER_KINDS: [Maker; 2] = [any_state, any_bytes];
 
 /// A page of any kind.
 pub fn any_page(random: &mut Random) -> Vec<u8> {
-    let kinds = random.pick::<&[Maker]>(&[&BLANK_KINDS, &FIRST_KINDS, &FILLED_KINDS, &SECOND_KINDS, &OTHER_KINDS]);
-    random.pick(kinds)(random)
+    let kinds: [&[Maker]; 6] = [&BLANK_KINDS, &FIRST_KINDS, &FILLED_KINDS, &SECOND_KINDS, &INSPECT_KINDS, &OTHER_KINDS];
+    let kind = random.pick(&kinds);
+    random.pick(kind)(random)
 }
 
 /// A page mostly of a state that the entry asks for.
@@ -404,6 +407,7 @@ pub fn page_for(random: &mut Random, entry: Entry) -> Vec<u8> {
         FIRST_ROUND => random.pick(&FIRST_KINDS)(random),
         FILLED => random.pick(&FILLED_KINDS)(random),
         SECOND_ROUND => random.pick(&SECOND_KINDS)(random),
+        INSPECTED => random.pick(&INSPECT_KINDS)(random),
         _ => random.pick(&BLANK_KINDS)(random),
     }
 }

@@ -1,17 +1,19 @@
 //! The fixed part of the differential run: it walks states, header bytes, words, the ends of words, lengths, refusals and
-//! files one by one, and pages as versions before Change 6 left them.
+//! files one by one, pages as versions before Change 6 left them, and records by the Inspect code.
 
 use super::damage::{choices, combined, combined_by};
 use super::files::{any_device, numbered, CONTENTS, DEVICES};
+use super::inspect::{bytes_taken, first_and_record_ending, first_taking_less, inspect_page, longest_of, RECORDS};
 use super::lengths::{resized, FAR_PAGES_LENGTHS, FAR_RECORD_LENGTHS};
 use super::pages::*;
 use super::words::{
     any_value, sum_too_large, unwritten, with_bare_hole, with_hole, with_neighbours, with_one_data_cell, Hole,
-    END_VALUES, LISTED_VALUES, ODD_VALUE, OPEN_ODD_VALUE, OPEN_SPARSE_VALUE, OPEN_VALUES, SPARSE_VALUE,
+    EDGE_VALUE, END_VALUES, LISTED_VALUES, ODD_VALUE, OPEN_ODD_VALUE, OPEN_SPARSE_VALUE, OPEN_VALUES, SPARSE_VALUE,
 };
 use crate::call::{Call, Entry};
 use crate::file::{file_bytes, FILE_PAGES_MOST};
-use crate::page::{data_cells_of, words_of, FIRST_BYTES, PAGE_BYTES, PULSES_MOST, SECOND_BYTES_MOST, WORDS};
+use crate::inspect::{INSPECT_BYTES_MOST, INSPECT_BYTES_SURE};
+use crate::page::{data_cells_of, words_of, FIRST_BYTES, INSPECTED, PAGE_BYTES, PULSES_MOST, SECOND_BYTES_MOST, WORDS};
 use crate::random::Random;
 use crate::word::{
     cells_with_sum, data_cells, legal_word, number_of, weight, Cells, CELLS, LARGEST_SUM, LARGEST_VALUE,
@@ -31,6 +33,7 @@ struct Walk {
     first: Vec<u8>,
     filled: Vec<u8>,
     second: Vec<u8>,
+    inspect: Vec<u8>,
 }
 
 /// All systematic calls.
@@ -40,7 +43,8 @@ pub fn calls() -> Vec<Call> {
     let first = first_page(&[(); WORDS].map(|()| random.draw() as u32));
     let filled = filled_page(&first);
     let second = second_page(&first, &random.bytes(60));
-    let mut walk = Walk { random, calls: Vec::new(), blank, first, filled, second };
+    let inspect = inspect_page(&first, &random.bytes(60));
+    let mut walk = Walk { random, calls: Vec::new(), blank, first, filled, second, inspect };
     walk.values();
     walk.words();
     walk.headers();
@@ -69,7 +73,22 @@ pub fn calls() -> Vec<Call> {
     walk.contents();
     walk.file_lengths();
     walk.pages_lengths();
+    walk.inspect_records();
+    walk.inspect_exact_fits();
+    walk.inspect_ends();
+    walk.inspect_words();
+    walk.inspect_named_lengths();
+    walk.inspect_output_lengths();
     walk.calls
+}
+
+/// A length of the entry's other buffer that is not refused.
+fn sound_length(entry: Entry) -> usize {
+    match entry {
+        Entry::WriteSecond | Entry::WriteInspect => 40,
+        Entry::ReadInspect => INSPECT_BYTES_MOST,
+        _ => FIRST_BYTES,
+    }
 }
 
 /// Every weight as a value, the one before it and the one after it.
@@ -97,7 +116,7 @@ impl Walk {
     /// Calls with the other buffer of a length that is not refused.
     fn pages(&mut self, entries: &[Entry], page: &[u8]) {
         for &entry in entries {
-            self.page(entry, page, if entry == Entry::WriteSecond { 40 } else { FIRST_BYTES });
+            self.page(entry, page, sound_length(entry));
         }
     }
 
@@ -120,8 +139,8 @@ impl Walk {
     }
 
     /// A valid page of each state.
-    fn bases(&self) -> [Vec<u8>; 4] {
-        [&self.blank, &self.first, &self.filled, &self.second].map(Vec::clone)
+    fn bases(&self) -> [Vec<u8>; 5] {
+        [&self.blank, &self.first, &self.filled, &self.second, &self.inspect].map(Vec::clone)
     }
 
     /// Every value of each of bytes 0, 1 and 2 of a valid page of each state.
@@ -133,7 +152,7 @@ impl Walk {
         }
     }
 
-    /// Every state over cells that are sound in states 01, 03 and 07 alike.
+    /// Every state over cells that are sound in states 01, 03, 07 and 09 alike.
     fn alike_pages(&mut self) {
         for base in ALIKE_VALUES.map(|value| first_page(&[value; WORDS])) {
             (0..=255).for_each(|state| self.pages(&Entry::OF_PAGES, &with_byte(base.clone(), 0, state)));
@@ -210,6 +229,7 @@ impl Walk {
             self.pages(&[Entry::ReadSecond], &with_flip(self.second.clone(), bit));
             self.pages(&Entry::OF_FILLED_PAGES, &with_flip(filled_earlier.clone(), bit));
             self.pages(&[Entry::ReadSecond], &with_flip(second_earlier.clone(), bit));
+            self.pages(&[Entry::ReadInspect], &with_flip(self.inspect.clone(), bit));
         }
     }
 
@@ -476,11 +496,129 @@ impl Walk {
     }
 }
 
+/// The calls of the Inspect code.
+impl Walk {
+    /// The first-round pages of the calls with records: words of which a zero record takes the most and the least bits and
+    /// some between, words that end in each way, and any words.
+    fn inspect_firsts(&self) -> [Vec<u8>; 5] {
+        let ends = std::array::from_fn(|index| END_VALUES[index % END_VALUES.len()]);
+        let [most, least, sparse] = [0, ODD_VALUE, SPARSE_VALUE].map(|value| first_page(&[value; WORDS]));
+        [most, least, sparse, first_page(&ends), self.first.clone()]
+    }
+
+    /// Every record length 0 to 256 with each kind of record over each of these pages, and lengths far beyond.
+    fn inspect_records(&mut self) {
+        for (first, kind) in
+            self.inspect_firsts().into_iter().flat_map(|first| RECORDS.map(|kind| (first.clone(), kind)))
+        {
+            for length in (0..=256).chain(FAR_RECORD_LENGTHS) {
+                let record = kind(&mut self.random, length);
+                self.inspect_record(&first, record);
+            }
+        }
+    }
+
+    /// Writes the record over the first-round page; the outcome, where it fits, is read back.
+    fn inspect_record(&mut self, first: &[u8], record: Vec<u8>) {
+        let fits = bytes_taken(first, &record) == record.len();
+        self.calls.push(Call::of_page(Entry::WriteInspect, first.to_vec(), record.clone()));
+        if fits {
+            self.inspect_outcome(&inspect_page(first, &record));
+        }
+    }
+
+    /// Reads the page into outputs that are one short, exact and longer; and with a bit of its cells flipped, and with
+    /// another header byte.
+    fn inspect_outcome(&mut self, page: &[u8]) {
+        let length = usize::from(page[1]);
+        let (bit, byte) = (self.random.between(24, 8 * PAGE_BYTES - 1), self.random.byte());
+        for length in [length.saturating_sub(1), length, length + 1 + usize::from(byte)] {
+            self.page(Entry::ReadInspect, page, length);
+        }
+        let damaged = [with_flip(page.to_vec(), bit), with_byte(page.to_vec(), bit % 3, byte)];
+        damaged.iter().for_each(|page| self.pages(&[Entry::ReadInspect], page));
+    }
+
+    /// First-round pages of which zero records take 0 to 16 bits less than of the page of zeros: the longest record, which
+    /// leaves 0 to 7 bits, and one byte more; and every byte 1 about the longest, over no record.
+    fn inspect_exact_fits(&mut self) {
+        for fewer in 0..=16 {
+            let first = first_taking_less(fewer);
+            let most = (45 * WORDS - fewer) / 8;
+            self.inspect_record(&first, vec![0; most]);
+            self.inspect_record(&first, vec![0; most + 1]);
+            for length in most - 1..=most + 1 {
+                let page = with_byte(with_byte(first.clone(), 0, INSPECTED), 1, length as u8);
+                self.pages(&[Entry::ReadInspect], &page);
+            }
+        }
+    }
+
+    /// Records that end in each word: after its first bit, before cells 44 and 45, and after cell 45, which the first
+    /// record has set or not. Each is read with its length, a byte less and a byte more.
+    fn inspect_ends(&mut self) {
+        let ends: [(u32, &[usize]); 6] =
+            [(2, &[44]), (1, &[44]), (3, &[45]), (SPARSE_VALUE, &[45]), (2, &[46]), (EDGE_VALUE, &[46])];
+        // The first bit of word 0 is not the last of a byte.
+        let starts = (1..WORDS).flat_map(|index| [(index, (0, &[1][..])), (index, (EDGE_VALUE, &[2]))]);
+        for (index, (value, cells)) in (0..WORDS).flat_map(|index| ends.map(|end| (index, end))).chain(starts) {
+            let (first, record) = first_and_record_ending(&mut self.random, index, value, cells);
+            let page = inspect_page(&first, &record);
+            self.inspect_record(&first, record);
+            for length in [page[1] - 1, page[1] + 1] {
+                self.pages(&[Entry::ReadInspect], &with_byte(page.clone(), 1, length));
+            }
+        }
+    }
+
+    /// Every pair of neighbours and sums too large in every word: with no record, with one that ends in the page, and with
+    /// the longest.
+    fn inspect_words(&mut self) {
+        let longest = longest_of(&self.first, self.random.bytes(INSPECT_BYTES_MOST));
+        let [empty, full] = [&[][..], &longest].map(|record| inspect_page(&self.first, record));
+        for (page, index) in
+            [empty, self.inspect.clone(), full].iter().flat_map(|page| (0..WORDS).map(move |index| (page, index)))
+        {
+            let cells = words_of(page)[index];
+            let pairs = (0..CELLS - 1).map(|cell| with_neighbours(cells, cell));
+            let sums =
+                [cells_with_sum(LARGEST_VALUE), cells_with_sum(LARGEST_VALUE + 1), sum_too_large(&mut self.random)];
+            for damaged in pairs.chain(sums) {
+                self.pages(&[Entry::ReadInspect], &with_word(page.clone(), index, damaged));
+            }
+        }
+    }
+
+    /// Every byte 1 that may name too much, with sound words and with one that is not legal, and every byte 1 after a record
+    /// of ones.
+    fn inspect_named_lengths(&mut self) {
+        for first in self.inspect_firsts() {
+            let page = with_byte(first, 0, INSPECTED);
+            let sum = with_word(page.clone(), 43, sum_too_large(&mut self.random));
+            for (page, length) in [page, sum].iter().flat_map(|page| (120..=250).map(move |length| (page, length))) {
+                self.pages(&[Entry::ReadInspect], &with_byte(page.clone(), 1, length));
+            }
+        }
+        let ones = inspect_page(&self.first, &[0xFF; INSPECT_BYTES_SURE]);
+        (0..=255).for_each(|length| self.pages(&[Entry::ReadInspect], &with_byte(ones.clone(), 1, length)));
+    }
+
+    /// Every output length 0 to 260.
+    fn inspect_output_lengths(&mut self) {
+        let records = [(0, 0x00), (1, 0x96), (126, 0x96), (247, 0x00)];
+        let pages = records.map(|(length, byte)| inspect_page(&first_page(&[0; WORDS]), &vec![byte; length]));
+        for (length, page) in (0..=260).flat_map(|length| pages.iter().map(move |page| (length, page))) {
+            self.page(Entry::ReadInspect, page, length);
+        }
+    }
+}
+
 #[cfg(test)]
 mod tests {
     use super::*;
     use crate::answer::{number, pulses_in, value, Answer};
     use crate::case::Place;
+    use crate::cases::inspect::{bits_in, byte_ends};
     use crate::coverage::Coverage;
     use crate::page::{page_capacity, read_second, FILLED, FIRST_ROUND, SECOND_ROUND};
     use crate::word::{decode_word, pulses, read_back, separators, separators_from, well_formed};
@@ -565,7 +703,7 @@ mod tests {
 
     #[test]
     fn the_number_of_calls() {
-        assert_eq!(answered().len(), 97_185);
+        assert_eq!(answered().len(), 170_352);
     }
 
     /// These calls alone meet every counter of a run but those of the other places of the buffers.
@@ -601,7 +739,11 @@ mod tests {
     #[test]
     fn every_byte_1_and_every_byte_2_under_a_sound_state() {
         for (entry, state) in asked() {
-            let most = if state == SECOND_ROUND { 126 } else { 0 };
+            let most = match state {
+                SECOND_ROUND => 126,
+                INSPECTED => 247,
+                _ => 0,
+            };
             let sound = |call: &Call, answer| sound_lengths(answer) && call.page[0] == state;
             occurs(entry, 0..=255, |call, answer| (sound(call, answer) && call.page[2] == 0).then(|| call.page[1]));
             occurs(entry, 0..=255, |call, answer| (sound(call, answer) && call.page[1] <= most).then(|| call.page[2]));
@@ -1016,5 +1158,103 @@ mod tests {
     #[test]
     fn every_data_length_up_to_360() {
         occurs(Entry::WriteFirst, 0..=360, |call, _| (call.page == [0; PAGE_BYTES]).then_some(call.other.len()));
+    }
+
+    /// Every record length 0 to 256 of zeros, of ones and of both, taken or refused 8, over words of one value and over
+    /// words that end in each way.
+    #[test]
+    fn every_record_length_by_the_inspect_code() {
+        let ends = std::array::from_fn(|index| END_VALUES[index % END_VALUES.len()]);
+        let values = [[0; WORDS], [ODD_VALUE; WORDS], [SPARSE_VALUE; WORDS], ends];
+        let firsts = values.map(|values| first_page(&values));
+        let kinds = [0x00, 0xFF, 0x0F];
+        let wanted = (1..=256).flat_map(|length| kinds.map(|kind| (length, kind))).chain([(0, 0x00)]);
+        let wanted = wanted.flat_map(|(length, kind)| (0..4).map(move |first| (first, length, kind)));
+        let kind_of = |record: &[u8]| [0x00, 0xFF].into_iter().find(|kind| record.iter().all(|byte| byte == kind));
+        occurs(Entry::WriteInspect, wanted, |call, answer| {
+            let first = firsts.iter().position(|first| *first == call.page && record_counts(answer));
+            first.map(|first| (first, call.other.len(), kind_of(&call.other).unwrap_or(0x0F)))
+        });
+    }
+
+    /// Every length that a record has, with outputs one short, exact and longer.
+    #[test]
+    fn every_record_length_read_back_by_the_inspect_code() {
+        let wanted = (1..=247).flat_map(|length| [(length, -1, 3), (length, 0, 0), (length, 1, 0)]);
+        occurs(Entry::ReadInspect, wanted.chain([(0, 0, 0), (0, 1, 0)]), |call, answer| {
+            let longer = |length: u8| call.other.len() as isize - isize::from(length);
+            output_counts(answer).then(|| (call.page[1], longer(call.page[1]).min(1), number(answer)))
+        });
+        occurs(Entry::ReadInspect, 0..=260, |call, answer| output_counts(answer).then_some(call.other.len()));
+    }
+
+    /// Every word in which a record ends before cell 44, before cell 45 and after it, and after the first bit of every word
+    /// but the first, a cell or a pair.
+    #[test]
+    fn every_word_that_a_record_ends_in() {
+        let starts = (1..WORDS).flat_map(|index| [(index, 1), (index, 2)]);
+        let wanted = || (0..WORDS).flat_map(|index| [44, 45, 46].map(|cell| (index, cell))).chain(starts.clone());
+        let end = |page: &[u8]| byte_ends(page).last().copied();
+        occurs(Entry::ReadInspect, wanted(), |call, answer| answer.ok().and_then(|_| end(&call.page)));
+        occurs(Entry::WriteInspect, wanted(), |call, answer| {
+            answer.ok().and_then(|_| end(&inspect_page(&call.page, &call.other)))
+        });
+    }
+
+    /// How many bits the walks lack: for the record that 8 refuses, and for the length that 9 does; and how many they have
+    /// left where both are accepted.
+    #[test]
+    fn walks_that_lack_1_to_8_bits_and_that_leave_0_to_7() {
+        occurs(Entry::WriteInspect, 1..=8, |call, answer| {
+            (number(answer) == 8).then(|| 8 * call.other.len() as u64 - value(answer))
+        });
+        occurs(Entry::ReadInspect, 1..=8, |call, answer| {
+            (number(answer) == 9).then(|| 8 * usize::from(call.page[1]) - bits_in(&call.page))
+        });
+        occurs(Entry::ReadInspect, 0..8, |call, answer| {
+            answer.ok().map(|length| bits_in(&call.page) - 8 * length as usize)
+        });
+    }
+
+    /// Each bit of a page of the Inspect code flipped by itself; of its cells, some lead to another record, and some to 7.
+    #[test]
+    fn every_cell_of_a_page_of_the_inspect_code_flipped() {
+        let base = accepted_page(Entry::ReadInspect, |page| page[1] == 60);
+        occurs(Entry::ReadInspect, 0..8 * PAGE_BYTES, |call, _| {
+            Some(&call.page).filter(|page| page.len() == PAGE_BYTES).and_then(|page| single_flip(page, base))
+        });
+        occurs(Entry::ReadInspect, [0, 7], |call, answer| {
+            let flipped = Some(&call.page).filter(|page| page.len() == PAGE_BYTES && page[..3] == base[..3]);
+            flipped.and_then(|page| single_flip(page, base)).map(|_| number(answer))
+        });
+    }
+
+    /// Two neighbours in each place of each word: read as a pair, or refused.
+    #[test]
+    fn every_pair_of_neighbours_read_and_not_read() {
+        let wanted = (0..WORDS).flat_map(|index| (0..CELLS - 1).map(move |cell| (index, cell)));
+        let pairs = |page: &[u8]| -> Vec<(usize, usize)> {
+            let words = words_of(page);
+            let both = |&(index, cell): &(usize, usize)| words[index][cell] && words[index][cell + 1];
+            (0..WORDS).flat_map(|index| (0..CELLS - 1).map(move |cell| (index, cell))).filter(both).collect()
+        };
+        occurs(
+            Entry::ReadInspect,
+            wanted.clone(),
+            |call, answer| {
+                if answer.is_ok() {
+                    pairs(&call.page)
+                } else {
+                    Vec::new()
+                }
+            },
+        );
+        occurs(Entry::ReadInspect, wanted, |call, answer| {
+            let named = refused_word(call, answer).filter(|_| call.page[1] == 0);
+            named
+                .into_iter()
+                .flat_map(|(of, _)| pairs(&call.page).into_iter().filter(move |(index, _)| *index == of))
+                .collect::<Vec<_>>()
+        });
     }
 }

@@ -1,0 +1,265 @@
+//! Records and pages of the Inspect code for the calls, valid and damaged.
+
+use super::files::{any_bytes, ones, zeros, Contents};
+use super::pages::{
+    any_filled, any_first, any_second, any_values, first_page, flipped, with_byte, with_value, with_word, Maker,
+};
+use super::words::{illegal, sum_too_large, with_neighbours, ODD_VALUE};
+use crate::answer::Refusal;
+use crate::inspect::{walks, write_inspect, INSPECT_BYTES_MOST};
+use crate::page::{words_of, INSPECTED, PAGE_BYTES, WORDS};
+use crate::random::Random;
+use crate::word::{legal_word, CELLS};
+
+/// Makes records of this many bytes, from no ones to ones alone.
+pub const RECORDS: [Contents; 6] = [zeros, sparse, any_bytes, mixed, dense, ones];
+
+/// A record of few ones.
+pub fn sparse(random: &mut Random, length: usize) -> Vec<u8> {
+    (0..length).map(|_| if random.one_in(4) { 1 << random.below(8) } else { 0 }).collect()
+}
+
+/// A record of mostly ones.
+pub fn dense(random: &mut Random, length: usize) -> Vec<u8> {
+    sparse(random, length).into_iter().map(|byte| !byte).collect()
+}
+
+/// A record of few and of mostly ones, in stretches by turns.
+pub fn mixed(random: &mut Random, length: usize) -> Vec<u8> {
+    let mut record = sparse(random, length);
+    let stretch = random.between(1, 40);
+    for turn in record.chunks_mut(stretch).skip(1).step_by(2) {
+        turn.iter_mut().for_each(|byte| *byte = !*byte);
+    }
+    record
+}
+
+/// A record of this many bytes, of any kind.
+pub fn any_record(random: &mut Random, length: usize) -> Vec<u8> {
+    random.pick(&RECORDS)(random, length)
+}
+
+/// How many whole bytes of the record the walks over the first-round page take.
+pub fn bytes_taken(first: &[u8], record: &[u8]) -> usize {
+    match write_inspect(&mut first.to_vec(), record) {
+        Err(Refusal { number: 8, index }) => index as usize / 8,
+        answer => answer.map(|_| record.len()).expect("a first-round page"),
+    }
+}
+
+/// The longest start of the record that fits the first-round page.
+pub fn longest_of(first: &[u8], mut record: Vec<u8>) -> Vec<u8> {
+    record.truncate(bytes_taken(first, &record));
+    record
+}
+
+/// The outcome of a record that fits the first-round page by the Inspect code.
+pub fn inspect_page(first: &[u8], record: &[u8]) -> Vec<u8> {
+    let mut page = first.to_vec();
+    write_inspect(&mut page, record).expect("the record fits");
+    page
+}
+
+/// A first-round page of which a zero record takes so many bits less, 0 to 44, than the 1,980 of the page of zeros: each
+/// word of value 3 takes one bit less than the 45 of one of value 0.
+pub fn first_taking_less(fewer: usize) -> Vec<u8> {
+    first_page(&std::array::from_fn(|index| if index * 5 % WORDS < fewer { 3 } else { 0 }))
+}
+
+/// A record of any kind and of at least `least` bytes, 0 to 126, that fits the first-round page.
+pub fn record_for(random: &mut Random, first: &[u8], least: usize) -> Vec<u8> {
+    let longest = longest_of(first, any_record(random, INSPECT_BYTES_MOST + 1));
+    let any = random.between(least, longest.len());
+    let length = random.pick(&[least, longest.len(), any, any]);
+    longest[..length].to_vec()
+}
+
+pub fn any_inspect(random: &mut Random) -> Vec<u8> {
+    let first = any_first(random);
+    inspect_page(&first, &record_for(random, &first, 0))
+}
+
+/// How many bits the walks over all words of the page take.
+pub fn bits_in(page: &[u8]) -> usize {
+    walks(&words_of(page), usize::MAX).concat().len()
+}
+
+/// How many words of the page the record reaches.
+pub fn words_reached(page: &[u8]) -> usize {
+    walks(&words_of(page), 8 * usize::from(page[1])).iter().filter(|steps| !steps.is_empty()).count()
+}
+
+/// For each byte of the record of the page: the word of its last bit, and the cell after those that this bit takes.
+pub fn byte_ends(page: &[u8]) -> Vec<(usize, usize)> {
+    let walks = walks(&words_of(page), 8 * usize::from(page[1]));
+    let steps = walks.iter().enumerate().flat_map(|(index, steps)| steps.iter().map(move |step| (index, step.next)));
+    steps.skip(7).step_by(8).collect()
+}
+
+/// The longest start of any record over the first-round page whose last bit is in this word, before one of these cells.
+fn record_ending(random: &mut Random, first: &[u8], index: usize, cells: &[usize]) -> Option<Vec<u8>> {
+    let record = longest_of(first, any_record(random, INSPECT_BYTES_MOST));
+    let ends = byte_ends(&inspect_page(first, &record));
+    let place = ends.iter().rposition(|(of, cell)| *of == index && cells.contains(cell))?;
+    Some(record[..=place].to_vec())
+}
+
+/// A first-round page with this value in this word, and a record over it whose last bit is in the word, before one of these
+/// cells.
+pub fn first_and_record_ending(random: &mut Random, index: usize, value: u32, cells: &[usize]) -> (Vec<u8>, Vec<u8>) {
+    let found = (0..10_000).find_map(|_| {
+        let first = first_page(&with_value(any_values(random), index, value));
+        record_ending(random, &first, index, cells).map(|record| (first, record))
+    });
+    found.expect("some record ends there")
+}
+
+/// The page with a word that is not legal with the read pairs put to 00: a sum too large in any word, or two neighbours in
+/// one that the record does not reach.
+pub fn with_unsound_word(random: &mut Random, page: Vec<u8>) -> Vec<u8> {
+    let index = random.below(WORDS);
+    let cells = if index < words_reached(&page) { sum_too_large(random) } else { illegal(random) };
+    with_word(page, index, cells)
+}
+
+/// The page with a byte 1 that names more than the walks take. Walks that take as much as byte 1 can name get a last word
+/// of fewer bits before it.
+pub fn with_length_too_large(random: &mut Random, page: Vec<u8>) -> Vec<u8> {
+    let enough = bits_in(&page) >= 8 * INSPECT_BYTES_MOST;
+    let page = if enough { with_word(page, WORDS - 1, legal_word(ODD_VALUE)) } else { page };
+    let least = bits_in(&page) / 8 + 1;
+    let any = random.between(least, INSPECT_BYTES_MOST);
+    with_byte(page, 1, random.pick(&[least, least, any]) as u8)
+}
+
+fn inspect_with_unsound_word(random: &mut Random) -> Vec<u8> {
+    let page = any_inspect(random);
+    with_unsound_word(random, page)
+}
+
+fn inspect_with_length_too_large(random: &mut Random) -> Vec<u8> {
+    let page = any_inspect(random);
+    with_length_too_large(random, page)
+}
+
+fn inspect_with_header(random: &mut Random) -> Vec<u8> {
+    let place = random.between(1, 2);
+    with_byte(any_inspect(random), place, random.byte())
+}
+
+/// A page whose byte 1 names a length beside the record's.
+fn inspect_of_length_beside(random: &mut Random) -> Vec<u8> {
+    let page = any_inspect(random);
+    let length = page[1];
+    with_byte(page, 1, random.pick(&[length.saturating_sub(1), length + 1]))
+}
+
+/// A page with two neighbouring cells set, which the walk reads or not.
+fn inspect_with_neighbours(random: &mut Random) -> Vec<u8> {
+    let (page, index) = (any_inspect(random), random.below(WORDS));
+    let cells = with_neighbours(words_of(&page)[index], random.below(CELLS - 1));
+    with_word(page, index, cells)
+}
+
+fn inspect_flipped(random: &mut Random) -> Vec<u8> {
+    let page = any_inspect(random);
+    flipped(random, page)
+}
+
+fn any_length(random: &mut Random) -> u8 {
+    random.between(0, INSPECT_BYTES_MOST) as u8
+}
+
+/// Any cells under a sound header.
+fn inspect_of_any_cells(random: &mut Random) -> Vec<u8> {
+    [vec![INSPECTED, any_length(random), 0], random.bytes(PAGE_BYTES - 3)].concat()
+}
+
+/// The cells of a page of another state under the header of the Inspect code.
+fn inspect_of_another_round(random: &mut Random) -> Vec<u8> {
+    let page = random.pick::<Maker>(&[any_first, any_filled, any_second])(random);
+    [&[INSPECTED, any_length(random), 0], &page[3..]].concat()
+}
+
+pub const INSPECT_KINDS: [Maker; 12] = [
+    any_inspect,
+    any_inspect,
+    any_inspect,
+    any_inspect,
+    inspect_with_unsound_word,
+    inspect_with_length_too_large,
+    inspect_with_header,
+    inspect_of_length_beside,
+    inspect_with_neighbours,
+    inspect_flipped,
+    inspect_of_any_cells,
+    inspect_of_another_round,
+];
+
+#[cfg(test)]
+mod tests {
+    use super::*;
+    use crate::answer::number;
+    use crate::cases::pages::any_page;
+    use crate::inspect::read_inspect;
+    use std::collections::HashSet;
+
+    fn read(page: &[u8]) -> u8 {
+        number(read_inspect(page, &mut [0; INSPECT_BYTES_MOST]))
+    }
+
+    /// How many bits of the record are ones.
+    fn ones_in(record: &[u8]) -> u32 {
+        record.iter().map(|byte| byte.count_ones()).sum()
+    }
+
+    #[test]
+    fn records_of_each_kind() {
+        let mut random = Random::new(1);
+        for length in [0, 1, 126, 248] {
+            let records = RECORDS.map(|record| record(&mut random, length));
+            assert!(records.iter().all(|record| record.len() == length));
+            let bits = 8 * length as u32;
+            assert_eq!((ones_in(&records[0]), ones_in(&records[5])), (0, bits));
+            assert!(ones_in(&records[1]) <= bits / 8 && ones_in(&records[4]) >= bits - bits / 8);
+        }
+    }
+
+    #[test]
+    fn pages_of_each_kind() {
+        let mut random = Random::new(2);
+        for _ in 0..200 {
+            assert_eq!(read(&any_inspect(&mut random)), 0);
+            assert_eq!(read(&inspect_with_unsound_word(&mut random)), 7);
+            assert_eq!(read(&inspect_with_length_too_large(&mut random)), 9);
+        }
+    }
+
+    #[test]
+    fn every_answer_is_met() {
+        let mut random = Random::new(3);
+        let met: HashSet<u8> = (0..500).map(|_| read(&random.pick(&INSPECT_KINDS)(&mut random))).collect();
+        assert!(met.is_superset(&HashSet::from([0, 6, 7, 9])), "{met:?}");
+    }
+
+    /// Among pages of any kind there are pages of state 09 that reading accepts, and refuses by 6, by 7 and by 9.
+    #[test]
+    fn any_page_may_be_of_the_inspect_code() {
+        let mut random = Random::new(5);
+        let pages = (0..1_000).map(|_| any_page(&mut random)).filter(|page| page[0] == INSPECTED);
+        let met: HashSet<u8> = pages.map(|page| read(&page)).collect();
+        assert_eq!(met, HashSet::from([0, 6, 7, 9]));
+    }
+
+    #[test]
+    fn records_that_end_as_asked_for() {
+        let mut random = Random::new(4);
+        for (index, cell) in [0, 1, 43].into_iter().flat_map(|index| [44, 45, 46].map(|cell| (index, cell))) {
+            let (first, record) = first_and_record_ending(&mut random, index, 1, &[cell]);
+            let page = inspect_page(&first, &record);
+            assert_eq!(byte_ends(&page).last(), Some(&(index, cell)));
+            assert_eq!(words_reached(&page), index + 1);
+            assert_eq!(read(&page), 0);
+        }
+    }
+}
