@@ -1,4 +1,5 @@
 // Whether a page is a filled page: what page capacity and write second ask before they work on it.
+use rows::STATE_FILLED;
 use rows::filling::count_filled;
 ghost use mathlib.Core.Path.{_≡_};
 ghost use Prim.Native.Nat.{_*_, _^_, _≤_, _<_};
@@ -24,7 +25,7 @@ pub fn check_filled(page: &[u8], size: usize, n: usize) -> FilledCheck
     if page.len() != size {
         return FilledCheck::PageLength;
     }
-    if page[0] != 3 {
+    if page[0] != STATE_FILLED {
         return FilledCheck::State;
     }
     if page[1] != 0 {

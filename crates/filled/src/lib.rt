@@ -9,6 +9,7 @@ use check::FilledCheck;
 use check::check_filled;
 use page::check::FirstCheck;
 use page::check::check_first;
+use rows::STATE_FILLED;
 use rows::filling;
 use rows::words::capacity_of;
 ghost use mathlib.Core.Path.{_≡_};
@@ -43,7 +44,7 @@ pub fn fill_page(page: &mut [u8]) -> PageFilled
     let c = check_first(page, 256, 44);
     match c {
         FirstCheck::Passed => {
-            page[0] = 3;
+            page[0] = STATE_FILLED;
             PageFilled::Pulses(filling::fill_words(page, 44))
         }
         FirstCheck::PageLength => PageFilled::PageLength,
@@ -88,7 +89,7 @@ pub fn capacity(page: &[u8]) -> Measured
     if page.len() != 256 {
         return Measured::PageLength;
     }
-    if page[0] == 3 {
+    if page[0] == STATE_FILLED {
         return filled_capacity(page);
     }
     first_capacity(page)

@@ -2,6 +2,10 @@
 use crate::Kind;
 use filled::Measured;
 use inspect::InspectRead;
+use rows::STATE_FILLED;
+use rows::STATE_FIRST;
+use rows::STATE_INSPECT;
+use rows::STATE_SECOND;
 use second::SecondRead;
 ghost use mathlib.Core.Path.{_≡_};
 ghost use Rattle.rows.specs.Page.{blankOf};
@@ -15,7 +19,7 @@ ghost use Rattle.report.specs.declared.Kind.the-variants.{Second};
 fn open_kind(state: u8, n: u32) -> Kind
     ensures { λ r. ⌜ r ≡ openKind state n ⌝ }
 {
-    if state == 3 {
+    if state == STATE_FILLED {
         return Kind::Filled(n);
     }
     Kind::First(n)
@@ -100,9 +104,9 @@ pub fn kind_of(piece: &[u8]) -> Kind
     let state = piece[0];
     match state {
         0 => blank_kind(piece),
-        1 | 3 => kind_measured(state, filled::capacity(piece)),
-        7 => second_kind(piece),
-        9 => inspect_kind(piece),
+        STATE_FIRST | STATE_FILLED => kind_measured(state, filled::capacity(piece)),
+        STATE_SECOND => second_kind(piece),
+        STATE_INSPECT => inspect_kind(piece),
         _ => Kind::Bad(5),
     }
 }

@@ -6,6 +6,7 @@ use cells::copy_start;
 use cells::zero_from;
 use filled::check::FilledCheck;
 use filled::check::check_filled;
+use rows::STATE_SECOND;
 use rows::second_round;
 ghost use mathlib.Core.Path.{_≡_};
 ghost use Rattle.second.specs.Answer.{writeSecondAnswer, writeSecondLeaves, readSecondAnswer, readSecondLeaves, secondWrittenCode, secondReadCode};
@@ -43,7 +44,7 @@ pub fn write_second(page: &mut [u8], second: &[u8]) -> SecondWritten
             if ((room / 8) as usize) < second.len() {
                 return SecondWritten::RecordLength(room);
             }
-            page[0] = 7;
+            page[0] = STATE_SECOND;
             page[1] = second.len() as u8;
             second_round::put_record(page, second, 44);
             SecondWritten::Done
@@ -64,7 +65,7 @@ pub fn read_second(page: &[u8], out: &mut [u8]) -> SecondRead
     if page.len() != 256 {
         return SecondRead::PageLength;
     }
-    if page[0] != 7 {
+    if page[0] != STATE_SECOND {
         return SecondRead::State;
     }
     if 126 < page[1] {
