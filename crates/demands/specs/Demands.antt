@@ -19,6 +19,7 @@
 --   Bytes P                each element is below 256, as it is in every slice of the code
 --   getD P i 0             byte i of P, 0 after its end; `take`, `drop`: the first so many, the others; `++`: one after another
 --   result v, refusal n i  the answer is the result v; it is refusal number n with index i; `result (v, p)`: the results v and p
+--   c .into, c .put ..     of the code c: its parts, which rows/specs/Code.antt explains
 -- Assumes nothing.
 use mathlib.Core.Bool.{Bool}
 use mathlib.Core.List.{List, [], _∷_, _++_}

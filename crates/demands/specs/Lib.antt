@@ -1,4 +1,5 @@
--- The demands as statements, and what is claimed of a page's pulses and of pages filled by the earlier fill.
+-- The demands as statements, and what is claimed of the outcome word by word, of a page's pulses, of the Inspect code's figures and of pages
+-- filled by the earlier fill.
 pub mod Demands
 pub mod Pulses
 pub mod Earlier

@@ -18,14 +18,14 @@ use Rattle.window.specs.Words.{pageWords}
 use Rattle.word.specs.Word.{seriesFrom, weight, zeckendorf}
 use Rattle.word.specs.Fill.{setOrEnd, fillFrom, fill, readFrom, read, capacity}
 use Rattle.rows.specs.Page.{state, recordLength, blankOf, firstWords, firstPage, sumOver, capacityAll, page256}
-use Rattle.rows.specs.Code.{fillCode}
-use Rattle.page.specs.Answer.{firstChecks, readFirstChecks, readFirstAnswer}
+use Rattle.rows.specs.Code.{Code, fillCode, longest}
+use Rattle.page.specs.Answer.{firstChecks, readFirstChecks, readFirstAnswer, readAnswer}
 use Rattle.filled.specs.Answer.{pageCapacityAnswer}
 use Rattle.filled.proofs.FilledAnswers.{as-first}
 use Rattle.second.specs.Answer.{readSecondAnswer}
 use Rattle.inspect.specs.Rows.{inspectCode}
 use Rattle.inspect.specs.Answer.{readInspectAnswer}
-use Rattle.demands.specs.Demands.{blank, Sized, FirstRound, Filled as FilledPage, SecondRound, dataCells, filledCells}
+use Rattle.demands.specs.Demands.{blank, Sized, FirstRound, Filled as FilledPage, SecondRound, dataCells, filledCells, ReaderOf}
 use Rattle.demands.proofs.Bounds.{capacity-is}
 use Rattle.demands.proofs.Demands.{demand1, demand3}
 use Rattle.demands.proofs.FirstPages.{first-written, words-written}
@@ -34,7 +34,7 @@ use Rattle.report.specs.Kinds.{kindBy, kindOf}
 use Rattle.report.specs.Lines.{lineOf}
 use Rattle.report.specs.Listing.{piecesOf, linesFrom, listingOf}
 use Rattle.report.specs.Claims.{KindsExact, LinesRight, ListingRight}
-use Rattle.report.proofs.Deciding.{kind-not-sized, kind-00, kind-01, kind-03, kind-07, kind-09, kind-unknown, WhyBad, not-sized, not-blank, unknown, open-bad, second-bad, inspect-bad, blank-or-bad, kind-why, reader-fits, bad-among}
+use Rattle.report.proofs.Deciding.{kind-not-sized, kind-00, kind-01, kind-03, kind-07, kind-09, kind-unknown, WhyBad, not-sized, not-blank, unknown, open-bad, second-bad, inspect-bad, blank-or-bad, kind-why, reader-fits, reader-among, bad-among}
 use Rattle.report.proofs.Listings.{pieces-none, pieces-most, listing-page, listing-last, turns-listing}
 use Rattle.report.specs.declared.Kind.{Kind}
 use Rattle.report.specs.declared.Kind.the-variants.{Blank, First, Filled, Second, Bad}
@@ -179,6 +179,26 @@ inspect-refused P out n z s l =
     let k = kind-09 P z s ∙ ap (kindBy Second) (reader-fits inspectCode P (blankOf 247) (omega arith) ∙ sym (reader-fits inspectCode P out l)) in
     (λ e. r .0 (sym k ∙ e), λ h. k ∙ r .1 h)
 
+-- by 1 and by 5 neither refuses a page that is sized and in its state
+reader-6-7-or-9 : (c : Code) → ReaderOf c → (P out : List ℕ) (n i : ℕ) → Sized P → state P ≡ c .into → longest c page256 ≤ length out
+    → readAnswer c P out ≡ refusal n i → T (among n (6 ∷ 7 ∷ 9 ∷ []))
+reader-6-7-or-9 c r P out n i z s l a =
+    let by : (k : ℕ) → n ≡ k → readAnswer c P out ≡ refusal k i = λ k q. a ∙ ap (λ (j : ℕ). refusal j i) q in
+    among-others n 5 _ (λ q. r .refused-5 P out i .0 (by 5 q) .1 s)
+    (among-others n 1 _ (λ q. r .refused-1 P out i .0 (by 1 q) .0 z) (reader-among c P out n i l a))
+
+second-6-7-or-9 : (P : List ℕ) (n : ℕ) → Sized P → (state P ≡ 7) ⊎ (state P ≡ 9) → kindOf P ≡ Bad n → T (among n (6 ∷ 7 ∷ 9 ∷ []))
+unfolding blankOf
+second-6-7-or-9 P n z s e =
+    ⊎-elim
+    (λ t.
+    let h = second-refused P (blankOf 126) n z t (omega arith) .0 e in
+    reader-6-7-or-9 fillCode (demand1 .read-second) P (blankOf 126) n (h .0) z t (omega arith) (h .1))
+    (λ t.
+    let h = inspect-refused P (blankOf 247) n z t (omega arith) .0 e in
+    reader-6-7-or-9 inspectCode (demand1 .read-inspect) P (blankOf 247) n (h .0) z t (omega arith) (h .1))
+    s
+
 pub kinds-exact : KindsExact
 kinds-exact = record {
   blank-page = λ P. (kind-why P Blank, λ e. ap kindOf e ∙ blank-kind);
@@ -194,6 +214,7 @@ kinds-exact = record {
   first-refused-as-read = first-refused-as-read;
   second-refused = second-refused;
   inspect-refused = inspect-refused;
+  second-6-7-or-9 = second-6-7-or-9;
   bad-numbers = λ P n e. bad-among P n (kind-why P (Bad n) e);
 }
 

@@ -159,7 +159,7 @@ reader-short c P out n h a =
     omega (arith, passed .1)
 
 -- its numbers
-reader-among : (c : Code) (P out : List ℕ) (n i : ℕ) → longest c page256 ≤ length out → readAnswer c P out ≡ refusal n i
+pub reader-among : (c : Code) (P out : List ℕ) (n i : ℕ) → longest c page256 ≤ length out → readAnswer c P out ≡ refusal n i
     → T (among n (1 ∷ 5 ∷ 6 ∷ 7 ∷ 9 ∷ []))
 unfolding among numbers recordChecks
 reader-among c P out n i h a = no-other (recordChecks c page256 P) (recordLength P) .listed n i (sym (reader-fits c P out h) ∙ a)

@@ -49,6 +49,9 @@ pub record KindsExact : Type 0 where
       → (kindOf P ≡ Bad n) ↔ ((i : ℕ) × (readSecondAnswer P out ≡ refusal n i))
   pub inspect-refused : (P out : List ℕ) (n : ℕ) → Sized P → state P ≡ stateInspect → 247 ≤ length out
       → (kindOf P ≡ Bad n) ↔ ((i : ℕ) × (readInspectAnswer P out ≡ refusal n i))
+  -- and by no other number than "6, 7 or 9"
+  pub second-6-7-or-9 : (P : List ℕ) (n : ℕ) → Sized P → (state P ≡ stateSecond) ⊎ (state P ≡ stateInspect)
+      → kindOf P ≡ Bad n → T (among n (6 ∷ 7 ∷ 9 ∷ []))
   pub bad-numbers : (P : List ℕ) (n : ℕ) → kindOf P ≡ Bad n → T (among n (1 ∷ 4 ∷ 5 ∷ 6 ∷ 7 ∷ 9 ∷ []))
 
 pub record LinesRight : Type 0 where

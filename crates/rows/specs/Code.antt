@@ -17,7 +17,7 @@ pub record Code : Type 0 where
   -- the state of the page that its writer takes, and the test of that page's words
   pub over : ℕ
   pub takes : List Bool → Bool
-  -- what first-round words become ahead of the writer
+  -- what first-round words become in the step ahead of the writer
   pub prepare : List (List Bool) → List (List Bool)
   -- how many bits the words take, given the record's; and the words with the bits in them
   pub room : List (List Bool) → List Bool → ℕ
