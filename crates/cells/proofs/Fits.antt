@@ -1,4 +1,4 @@
--- So many cells of some, with 0 after them; cells of which none is set.
+-- So many cells of some, with 0 after them; cells of which none is set; bytes that are all alike.
 -- Assumes nothing.
 use mathlib.Core.Bool.{Bool, true, false, not, _&&_, _||_}
 use mathlib.Core.List.{List, [], _∷_, _++_}
@@ -8,14 +8,13 @@ use native.Mathlib.Nat.{zero-add, suc-add, suc-sub-suc, sub-zero, le-of-suc-le-s
 use native.Mathlib.Omega.{arith}
 use borrow.Author.Tests.{ne-eqb}
 use lib.Dec.{eqb}
-use lib.ListN.{length, take, drop, replicate, length-drop, length-replicate}
+use lib.ListN.{length, take, drop, replicate, length-drop, length-replicate, replicate-append-replicate}
 use lib.Pow.{pow-pos}
-use lib.Seq.{drop-nil, length-take-le, take-add, take-at, take-append-le, drop-append-le}
+use lib.Seq.{drop-nil, length-take-le, take-add, take-append-le, drop-append-le}
 use Rattle.cells.specs.Cells.{first, rest, number, cells, fit, someSet}
 use Rattle.cells.specs.Bytes.{bits, bytes, Bytes, zeros}
 use Rattle.cells.proofs.Numbers.{number-cells, number-append, cells-of}
 use Rattle.cells.proofs.Bits.{cells-zero}
-use Rattle.cells.proofs.Bytes.{length-bits, length-bytes, bytes-bits, Bytes-bytes}
 
 -- ---- n cells of some cells
 
@@ -129,16 +128,6 @@ bits-front (suc k) l h =
     (bits-front k (drop 8 l) (omega (arith, length-drop 8 l)))
     ∙ sym (take-add 8 (8 * k) l) ∙ ap (λ (j : ℕ). take j l) e
 
--- the record that bits hold at their start
-pub bytes-fit : (bs : List ℕ) (n : ℕ) → Bytes bs → 8 * length bs ≤ n → bytes (length bs) (fit n (bits bs)) ≡ bs
-bytes-fit bs n h l =
-    let b = bits bs in
-    let x = bytes (length bs) (fit n b) in
-    let e : bits x ≡ b =
-    bits-front (length bs) (fit n b) (omega (arith, length-fit n b))
-    ∙ ap (take (8 * length bs)) (fit-pad n b (omega (arith, length-bits bs))) ∙ take-at b _ (8 * length bs) (length-bits bs) in
-    sym (bytes-bits x (Bytes-bytes (length bs) (fit n b))) ∙ ap₂ bytes (length-bytes (length bs) (fit n b)) e ∙ bytes-bits bs h
-
 pub take-bytes : (k m : ℕ) (l : List Bool) → k ≤ m → take k (bytes m l) ≡ bytes k l
 unfolding bytes
 take-bytes zero m l h = refl
@@ -175,3 +164,12 @@ unfolding bits
 zero-bits zero = unfold someSet in refl
 zero-bits (suc m) =
     someSet-append (cells 8 0) (bits (replicate m 0)) ∙ ap₂ (λ (s t : Bool). s || t) (someSet-number (cells 8 0) ∙ ap (λ (n : ℕ). not (eqb n 0)) (number-cells 8 0 (omega arith))) (zero-bits m)
+
+-- ---- bytes that are all alike
+
+pub bits-alike : (n b : ℕ) (c : Bool) → cells 8 b ≡ replicate 8 c → bits (replicate n b) ≡ replicate (8 * n) c
+unfolding bits
+bits-alike zero b c e = refl
+bits-alike (suc n) b c e =
+    let k : 8 + 8 * n ≡ 8 * suc n = omega arith in
+    ap₂ (λ (x y : List Bool). x ++ y) e (bits-alike n b c e) ∙ replicate-append-replicate 8 (8 * n) c ∙ ap (λ (m : ℕ). replicate m c) k

@@ -1,15 +1,16 @@
 -- The figures of the Inspect code (specs/Inspect.antt).
 -- Assumes nothing.
-use mathlib.Core.Bool.{Bool, true, false}
-use mathlib.Core.List.{List, _∷_, _++_}
+use mathlib.Core.Bool.{true, false}
+use mathlib.Core.List.{List}
 use mathlib.Core.Path.{_≡_, refl, sym, ap, ap₂, _∙_}
-use Prim.Native.Nat.{ℕ, zero, suc, min, _+_, _*_, _≤_, _<_}
-use native.Mathlib.Nat.{zero-add, suc-add}
+use Prim.Native.Nat.{ℕ, zero, suc, min, _*_, _≤_, _<_}
 use native.Mathlib.Omega.{arith}
 use lib.ListN.{length, replicate, length-replicate}
 use Rattle.cells.specs.Cells.{bit, cells}
 use Rattle.cells.specs.Bytes.{bits, Bytes}
+use Rattle.cells.proofs.Bits.{cells-zero}
 use Rattle.cells.proofs.Bytes.{length-bits}
+use Rattle.cells.proofs.Fits.{bits-alike}
 use Rattle.answer.specs.Answer.{refusal}
 use Rattle.window.specs.Words.{pageWords}
 use Rattle.walk.proofs.Claims.{zero-legal}
@@ -37,17 +38,7 @@ module _ (P R : List ℕ) (p : FirstRound P) where
 
 -- ---- the figures
 
-bits-alike : (n b : ℕ) (c : Bool) → cells 8 b ≡ replicate 8 c → bits (replicate n b) ≡ replicate (8 * n) c
-unfolding bits
-bits-alike zero b c e = refl
-bits-alike (suc n) b c e =
-    let k : 8 * suc n ≡ 8 + 8 * n = omega arith in
-    rw (e, bits-alike n b c e, k) (replicate-add 8 (8 * n) c)
-  where
-    replicate-add : (m n : ℕ) (c : Bool) → replicate m c ++ replicate n c ≡ replicate (m + n) c
-    replicate-add zero n c = rw (zero-add n) refl
-    replicate-add (suc m) n c = rw (suc-add m n) (ap (λ (l : List Bool). c ∷ l) (replicate-add m n c))
-
+-- of bytes, so that numerals can be given
 length-alike : (n b : ℕ) → length (replicate n b) ≡ n
 length-alike n b = length-replicate n b
 
@@ -63,16 +54,12 @@ zero-page = all-alike (replicate 46 false) zero-legal
 abbrev Z : List ℕ
 Z = zero-page .0
 
-eight-zeros : cells 8 0 ≡ replicate 8 false
-unfolding cells bit
-eight-zeros = refl
-
 eight-ones : cells 8 255 ≡ replicate 8 true
 unfolding cells bit
 eight-ones = refl
 
 zeros-taken : (n : ℕ) → taken Z (replicate n 0) ≡ min (8 * n) 1980
-zeros-taken n = ap₂ takenAll (zero-page .2) (bits-alike n 0 false eight-zeros) ∙ takenAll-zeros 44 (8 * n)
+zeros-taken n = ap₂ takenAll (zero-page .2) (bits-alike n 0 false (cells-zero 8)) ∙ takenAll-zeros 44 (8 * n)
 
 ones-taken : (n : ℕ) → taken Z (replicate n 255) ≡ min (8 * n) 1012
 ones-taken n =

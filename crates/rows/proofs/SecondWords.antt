@@ -68,10 +68,7 @@ unfolding readAll read
 read-most [] h = omega arith
 read-most (w ∷ ws) h = omega (arith, length-append (read w) (readAll ws), capacity-le false w, h .0, read-most ws (h .1))
 
--- n words filled, and n words with second bits, are n words
-pub row-fillAll : (n : ℕ) (ws : List (List Bool)) → Row n ws → Row n (fillAll ws)
-row-fillAll n ws r = (length-fillAll ws ∙ r .0, Words-fillAll ws (r .1))
-
+-- n words with second bits are n words
 pub row-putAll : (n : ℕ) (ws : List (List Bool)) (l : List Bool) → Row n ws → Row n (putAll ws l)
 row-putAll n ws l r = (length-putAll ws l ∙ r .0, Words-putAll ws l (r .1))
 

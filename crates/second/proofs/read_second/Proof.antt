@@ -1,6 +1,5 @@
 -- `second::read_second` meets its contract: each test answers as the definition does, in its order, and the record is copied from what was
 -- gathered. Assumes nothing.
-mod Buffers
 mod SecondChecks
 use mathlib.Core.List.{List}
 use mathlib.Core.Logic.{inl, inr}

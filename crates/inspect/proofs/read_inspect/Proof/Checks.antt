@@ -1,19 +1,21 @@
 -- What read Inspect knows of a page once its words are read, and the answers that follow. Assumes nothing.
 use mathlib.Core.List.{List}
 use mathlib.Core.Logic.{inl}
-use mathlib.Core.Path.{_≡_, refl}
+use mathlib.Core.Path.{_≡_, refl, ap, _∙_}
 use Prim.Native.Nat.{ℕ, _*_, _≤_, _<_}
 use native.Mathlib.Omega.{arith}
-use lib.ListN.{length, take}
-use Rattle.cells.specs.Bytes.{bytes, Bytes}
+use lib.ListN.{length, take, replicate}
+use Rattle.cells.specs.Bytes.{Bytes}
 use Rattle.answer.specs.Answer.{result, refusal}
+use Rattle.window.specs.Words.{pageWords, putCells}
+use Rattle.window.proofs.Buffers.{buffer-record}
 use Rattle.word.specs.Word.{legal}
 use Rattle.rows.specs.Page.{byte1, lowest, page256}
 use Rattle.rows.specs.Code.{foundOf, judgedOf, recordOf, AllJudgedOf, SecondRoundOf}
 use Rattle.rows.proofs.Lowest.{lowest-le, passed-before}
 use Rattle.page.specs.Terms.{RecordHeaderOf}
 use Rattle.page.proofs.CodeAnswers.{length-judged, read-taken, read-3, read-9}
-use Rattle.inspect.specs.Rows.{inspectCode}
+use Rattle.inspect.specs.Rows.{inspectCode, readAllUpTo}
 use Rattle.inspect.specs.Answer.{readInspectAnswer}
 use Rattle.inspect.proofs.Rows.{length-unwalkedAll}
 
@@ -23,11 +25,11 @@ pub record Found (P buffer : List ℕ) (n : ℕ) : Type 0 where
   pub header : RecordHeaderOf inspectCode page256 P
   pub all-legal : AllJudgedOf inspectCode page256 P
   pub counted : n ≡ length (foundOf inspectCode page256 P)
-  pub held : (k : ℕ) → 8 * k ≤ n → take k buffer ≡ bytes k (foundOf inspectCode page256 P)
+  pub held : buffer ≡ putCells (replicate 256 0) 0 (foundOf inspectCode page256 P)
 
 -- from the number of words that were found legal so
 pub all-found : (P buffer : List ℕ) (i n : ℕ) → Bytes P → RecordHeaderOf inspectCode page256 P → i ≡ lowest legal (judgedOf inspectCode page256 P) → 44 ≤ i
-    → (i ≡ 44 → n ≡ length (foundOf inspectCode page256 P)) → (i ≡ 44 → (k : ℕ) → 8 * k ≤ n → take k buffer ≡ bytes k (foundOf inspectCode page256 P))
+    → n ≡ length (readAllUpTo (8 * byte1 P) (pageWords P i)) → buffer ≡ putCells (replicate 256 0) 0 (readAllUpTo (8 * byte1 P) (pageWords P i))
     → Found P buffer n
 all-found P buffer i n b s e h c d =
     let ws = judgedOf inspectCode page256 P in
@@ -36,8 +38,8 @@ all-found P buffer i n b s e h c d =
       of-bytes = b;
       header = s;
       all-legal = λ j k. passed-before legal ws j (omega arith);
-      counted = c e44;
-      held = d e44;
+      counted = c ∙ ap (λ (k : ℕ). length (readAllUpTo (8 * byte1 P) (pageWords P k))) e44;
+      held = d ∙ ap (λ (k : ℕ). putCells (replicate 256 0) 0 (readAllUpTo (8 * byte1 P) (pageWords P k))) e44;
     }
 
 module _ (P out buffer : List ℕ) (n : ℕ) (f : Found P buffer n) where
@@ -66,4 +68,6 @@ module _ (P out buffer : List ℕ) (n : ℕ) (f : Found P buffer n) where
 -- the record's bytes in the buffer
 pub inspect-bytes : (P buffer : List ℕ) (n : ℕ) → Found P buffer n → 8 * byte1 P ≤ n → take (byte1 P) buffer ≡ recordOf inspectCode page256 P
 unfolding recordOf
-inspect-bytes P buffer n f k = f .held (byte1 P) k
+inspect-bytes P buffer n f k =
+    ap (take (byte1 P)) (f .held)
+    ∙ buffer-record 256 (byte1 P) (foundOf inspectCode page256 P) (omega (arith, f .counted)) (omega (arith, f .header .2))

@@ -13,6 +13,7 @@ use Rattle.cells.proofs.Fits.{not-not}
 use Rattle.answer.specs.Answer.{result, refusal}
 use Rattle.window.specs.Words.{putCells, pageWords}
 use Rattle.window.proofs.Words.{length-pageWords, Words-pageWords}
+use Rattle.window.proofs.Buffers.{buffer-spare, buffer-record}
 use Rattle.word.specs.Fill.{wellFormed}
 use Rattle.rows.specs.Page.{byte1, lowest, readAll, page256, secondBitsOf}
 use Rattle.rows.specs.Code.{fillCode, recordOf, AllJudgedOf, SecondRoundOf}
@@ -21,7 +22,6 @@ use Rattle.rows.proofs.SecondWords.{read-most}
 use Rattle.page.specs.Terms.{RecordHeaderOf}
 use Rattle.page.proofs.CodeAnswers.{read-taken, read-3, read-9}
 use Rattle.second.specs.Answer.{readSecondAnswer}
-use Rattle.second.proofs.read_second.Proof.Buffers.{buffer-spare, buffer-record}
 
 -- 7 judges the words as they stand
 pub same-judged : (n : ℕ) (ws : List (List Bool)) → length (fillCode .judged n ws) ≡ length ws
