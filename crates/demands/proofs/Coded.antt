@@ -4,24 +4,26 @@
 use mathlib.Core.Bool.{Bool, true, false}
 use mathlib.Core.List.{List, [], _∷_}
 use mathlib.Core.Path.{_≡_, refl, sym, ap, ap₂, _∙_, subst}
-use Prim.Native.Nat.{ℕ, suc, _*_, _≤_, _<_}
+use Prim.Native.Nat.{ℕ, suc, _+_, _*_, _≤_, _<_}
 use native.Mathlib.Omega.{arith}
 use borrow.Author.Tests.{eqb-true, eqb-false}
 use lib.Dec.{T, eqb}
 use lib.ListN.{length, take, drop, getD, length-take, take-append-drop}
 use Rattle.cells.specs.Cells.{bit, kept}
-use Rattle.cells.specs.Bytes.{bits, bytes, Bytes}
+use Rattle.cells.specs.Bytes.{bits, bytes, Bytes, zeros}
 use Rattle.cells.proofs.Bytes.{length-bits, length-bytes, bytes-bits, Bytes-bytes, Bytes-drop}
 use Rattle.cells.proofs.Fits.{bits-front, bytes-front}
 use Rattle.cells.proofs.Kept.{kept-bits}
 use Rattle.window.specs.Words.{Words, pageWords, pageOf}
 use Rattle.window.proofs.Words.{length-pageWords}
 use Rattle.word.specs.Word.{legal}
-use Rattle.rows.specs.Page.{Shape, state, stateFirst, byte2, recordLength, FirstRoundOf}
+use Rattle.rows.specs.declared.shape.Shape.{Shape}
+use Rattle.rows.specs.Page.{state, stateFirst, byte2, tail, recordLength, FirstRoundOf}
 use Rattle.rows.specs.Code.{Code, longest, sure, roomAhead, foundOf, judgedOf, ReadyOf, FitsOf, SecondRoundOf, writtenOf, outcomeOf, recordOf}
 use Rattle.rows.proofs.EachWord.{Each, each-from, each-at, each-word, Row}
 use Rattle.demands.proofs.Laws.{CodeLaws, Told, AheadOf}
-use Rattle.demands.proofs.Laid.{wordBytes, Sound, laid, tail, laid-words, laid-length, laid-tail, laid-Bytes, laid-open, laid-row, length-tail, laid-put, laid-own, laid-round}
+use Rattle.rows.proofs.Shapes.{wordBytes, Sound}
+use Rattle.demands.proofs.Laid.{laid, laid-words, laid-length, laid-tail, laid-Bytes, laid-open, laid-row, length-tail, laid-put, laid-own, laid-round}
 use Rattle.demands.proofs.Kept.{kept-laid}
 
 -- lists of the same length that differ do so at an index
@@ -59,13 +61,13 @@ module _ {σ : Shape} (f : Sound σ) {c : Code} (laws : CodeLaws c) (told : Told
     prep = c .prepare ws
 
     abbrev t : List ℕ
-    t = tail m P
+    t = tail n P
 
     row-of : Row n ws
     row-of = laid-row f P (p .sized)
 
     tail-Bytes : Bytes t
-    tail-Bytes = Bytes-drop m (drop 3 P) (Bytes-drop 3 P (p .of-bytes))
+    tail-Bytes = Bytes-drop (3 + m) P (p .of-bytes)
 
     -- ---- the step ahead of the writer
 
@@ -82,13 +84,13 @@ module _ {σ : Shape} (f : Sound σ) {c : Code} (laws : CodeLaws c) (told : Told
     pub ahead-ready : ReadyOf c σ (ahead P)
     ahead-ready =
         subst (ReadyOf c σ) (sym ahead-is)
-        (laid-open f (c .over) (c .takes) prep t (laws .states .0) prep-row (prepared .2) tail-Bytes (length-tail f P (p .sized)))
+        (laid-open f (c .over) (c .takes) prep t (laws .states .0) prep-row (prepared .2) tail-Bytes (p .tail-zero) (length-tail f P (p .sized)))
 
     pub ahead-words : pageWords (ahead P) n ≡ prep
     ahead-words = ap (λ (F : List ℕ). pageWords F n) ahead-is ∙ laid-words f (c .over) 0 0 prep prep-row t
 
-    ahead-tail : tail m (ahead P) ≡ t
-    ahead-tail = ap (tail m) ahead-is ∙ laid-tail f (c .over) 0 0 prep prep-row t
+    ahead-tail : tail n (ahead P) ≡ t
+    ahead-tail = ap (tail n) ahead-is ∙ laid-tail f (c .over) 0 0 prep prep-row t
 
     pub ahead-kept : T (kept (bits P) (bits (ahead P)))
     ahead-kept =
@@ -160,6 +162,9 @@ module _ {σ : Shape} (f : Sound σ) {c : Code} (laws : CodeLaws c) (told : Told
       unfolding pageOf
       outcome-byte2 = ap byte2 outcome-is
 
+      pub outcome-tail : T (zeros (tail n O))
+      outcome-tail = rw (ap (tail n) outcome-is ∙ laid-tail f (c .into) (length R) 0 vs put-row t) (p .tail-zero)
+
       pub outcome-words : pageWords O n ≡ vs
       outcome-words = ap (λ (X : List ℕ). pageWords X n) outcome-is ∙ laid-words f (c .into) (length R) 0 vs put-row t
 
@@ -201,6 +206,7 @@ module _ {σ : Shape} (f : Sound σ) {c : Code} (laws : CodeLaws c) (told : Told
         in-state = outcome-state;
         length-most = omega (arith, length-back, never-in);
         byte2-zero = outcome-byte2;
+        tail-zero = outcome-tail;
         words-pass = λ i q.
             let e : judgedOf c σ O ≡ c .judged (length (bits R)) vs = ap₂ (c .judged) wanted outcome-words in
             let l : length (c .judged (length (bits R)) vs) ≡ n = laws .same-judged (length (bits R)) vs ∙ put-row .0 in
@@ -220,36 +226,36 @@ module _ {σ : Shape} (f : Sound σ) {c : Code} (laws : CodeLaws c) (told : Told
 
   -- ---- where a page comes from: the first-round page of some legal words and of a page's last bytes
 
-  module _ (page : List ℕ) (hp : Bytes page) (l : length page ≡ σ .size) (us : List (List Bool)) (hu : Words us)
+  module _ (page : List ℕ) (hp : Bytes page) (l : length page ≡ σ .size) (z : T (zeros (tail n page))) (us : List (List Bool)) (hu : Words us)
       (e : length us ≡ length (pageWords page n)) (h : Each legal us) where
     abbrev first-of : List ℕ
-    first-of = laid stateFirst 0 0 us (tail m page)
+    first-of = laid stateFirst 0 0 us (tail n page)
 
     us-row : Row n us
     us-row = (e ∙ length-pageWords page n, hu)
 
     first-round-of : FirstRoundOf σ first-of
     first-round-of =
-        laid-open f stateFirst legal us (tail m page) (omega arith) us-row h (Bytes-drop m (drop 3 page) (Bytes-drop 3 page hp)) (length-tail f page l)
+        laid-open f stateFirst legal us (tail n page) (omega arith) us-row h (Bytes-drop (3 + m) page hp) z (length-tail f page l)
 
     first-words : pageWords first-of n ≡ us
-    first-words = laid-words f stateFirst 0 0 us us-row (tail m page)
+    first-words = laid-words f stateFirst 0 0 us us-row (tail n page)
 
-    first-tail : tail m first-of ≡ tail m page
-    first-tail = laid-tail f stateFirst 0 0 us us-row (tail m page)
+    first-tail : tail n first-of ≡ tail n page
+    first-tail = laid-tail f stateFirst 0 0 us us-row (tail n page)
 
   -- each page that the writer takes is what the step ahead leaves of a first-round page
   pub ready-from : (F : List ℕ) → ReadyOf c σ F → (P : List ℕ) × FirstRoundOf σ P × (ahead P ≡ F)
   ready-from F q =
       let o = laws .ready-origin (pageWords F n) (laid-row f F (q .sized) .1) (each-word (c .takes) F n (q .words-pass)) in
-      let P = first-of F (q .of-bytes) (q .sized) (o .0) (o .1) (o .2) (o .3) in
-      let p = first-round-of F (q .of-bytes) (q .sized) (o .0) (o .1) (o .2) (o .3) in (
+      let P = first-of F (q .of-bytes) (q .sized) (q .tail-zero) (o .0) (o .1) (o .2) (o .3) in
+      let p = first-round-of F (q .of-bytes) (q .sized) (q .tail-zero) (o .0) (o .1) (o .2) (o .3) in (
         P,
         p,
         ahead-is P p
             ∙ ap₂ (λ (us : List (List Bool)) (u : List ℕ). laid (c .over) 0 0 us u)
-            (ap (c .prepare) (first-words F (q .of-bytes) (q .sized) (o .0) (o .1) (o .2) (o .3)) ∙ o .4)
-            (first-tail F (q .of-bytes) (q .sized) (o .0) (o .1) (o .2) (o .3))
+            (ap (c .prepare) (first-words F (q .of-bytes) (q .sized) (q .tail-zero) (o .0) (o .1) (o .2) (o .3)) ∙ o .4)
+            (first-tail F (q .of-bytes) (q .sized) (q .tail-zero) (o .0) (o .1) (o .2) (o .3))
             ∙ laid-round f (c .over) (c .takes) F q,
       )
 
@@ -284,9 +290,9 @@ module _ {σ : Shape} (f : Sound σ) {c : Code} (laws : CodeLaws c) (told : Told
     pub second-from : (P : List ℕ) × (R : List ℕ) × FirstRoundOf σ P × FitsOf c σ R P × (outcomeOf c σ P R ≡ page)
     second-from =
         let o = laws .origin (8 * len) (pageWords page n) (laid-row f page (q .sized) .1) judged-all (q .bits-enough) (q .spare-zero) in
-        let P = first-of page (q .of-bytes) (q .sized) (o .0) (o .1) (o .2) (o .3) in
-        let p = first-round-of page (q .of-bytes) (q .sized) (o .0) (o .1) (o .2) (o .3) in
-        let w : pageWords P n ≡ o .0 = first-words page (q .of-bytes) (q .sized) (o .0) (o .1) (o .2) (o .3) in
+        let P = first-of page (q .of-bytes) (q .sized) (q .tail-zero) (o .0) (o .1) (o .2) (o .3) in
+        let p = first-round-of page (q .of-bytes) (q .sized) (q .tail-zero) (o .0) (o .1) (o .2) (o .3) in
+        let w : pageWords P n ≡ o .0 = first-words page (q .of-bytes) (q .sized) (q .tail-zero) (o .0) (o .1) (o .2) (o .3) in
         let room : roomAhead c σ P S ≡ c .room (c .prepare (o .0)) wanted-bits =
         ap₂ (λ (us : List (List Bool)) (b : List Bool). c .room (c .prepare us) b) w bits-S in
         let r : FitsOf c σ S P = record { of-bytes = Bytes-S; enough = omega (arith, room, length-S, o .5) } in
@@ -297,7 +303,7 @@ module _ {σ : Shape} (f : Sound σ) {c : Code} (laws : CodeLaws c) (told : Told
           p,
           r,
           outcome-is P p S r
-              ∙ ap₂ (λ (k : ℕ) (us : List (List Bool)). laid (c .into) k 0 us (tail m P)) length-S again
-              ∙ ap (laid (c .into) len 0 (pageWords page n)) (first-tail page (q .of-bytes) (q .sized) (o .0) (o .1) (o .2) (o .3))
+              ∙ ap₂ (λ (k : ℕ) (us : List (List Bool)). laid (c .into) k 0 us (tail n P)) length-S again
+              ∙ ap (laid (c .into) len 0 (pageWords page n)) (first-tail page (q .of-bytes) (q .sized) (q .tail-zero) (o .0) (o .1) (o .2) (o .3))
               ∙ rw (q .in-state, q .byte2-zero) at (laid-own f page (q .of-bytes) (q .sized)),
         )

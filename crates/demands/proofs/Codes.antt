@@ -1,7 +1,9 @@
--- The fill code and the Inspect code obey the laws of a code, and the step ahead of each one's writer: so what is demanded of a code holds of both.
+-- The fill code and the Inspect code obey the laws of a code, and the step ahead of each one's writer: so what is demanded of a code holds of
+-- both, of the fill code over each known shape of page.
 -- Assumes nothing.
 use mathlib.Core.Bool.{Bool, false}
 use mathlib.Core.List.{List, [], _∷_}
+use mathlib.Core.Logic.{⊎-elim}
 use mathlib.Core.Path.{_≡_, refl, sym, ap, ap₂, _∙_, subst}
 use Prim.Native.Nat.{ℕ, suc, _≤_}
 use native.Mathlib.Omega.{arith}
@@ -20,18 +22,20 @@ use Rattle.word.proofs.Sums.{legal-parts}
 use Rattle.word.proofs.Filling.{length-fill}
 use Rattle.word.proofs.SecondBits.{length-put}
 use Rattle.word.proofs.Claims.{second-bits-kept, well-formed-words}
-use Rattle.rows.specs.Page.{Shape, page256, stateFirst, stateFilled, withHeader, fillAll, capacityAll, readAll, putAll, filledPage, FirstRoundOf}
+use Rattle.rows.specs.declared.shape.Shape.{Shape}
+use Rattle.rows.specs.Page.{page256, shapeOf, stateFirst, stateFilled, withHeader, fillAll, capacityAll, readAll, putAll, filledPage, FirstRoundOf}
 use Rattle.rows.specs.Code.{fillCode}
 use Rattle.rows.proofs.EachWord.{Each, each-sparse}
 use Rattle.rows.proofs.SecondWords.{length-fillAll, length-putAll, Words-fillAll, Words-putAll, read-most, capacity-count, read-back, putAll-spare}
 use Rattle.rows.proofs.Sums.{capacity-bounds-all}
+use Rattle.rows.proofs.Shapes.{Sound, sound256, sound512, own-shape}
 use Rattle.page.proofs.FirstAnswers.{check-taken}
-use Rattle.filled.specs.Answer.{fillPageAnswer, fillPageLeaves}
+use Rattle.filled.specs.Answer.{pulsesOf, fillPageAnswer, fillPageLeaves}
 use Rattle.inspect.specs.Rows.{takenAll, unwalkedAll, inspectCode}
 use Rattle.inspect.proofs.Rows.{length-walkedAll, words-walkedAll, length-unwalkedAll, words-unwalkedAll, kept-walkedAll, takenAll-bits, takenAll-most, takenAll-least, readAll-most, legal-unwalkedAll, walkedAll-unwalkedAll, takenAll-unwalkedAll, row-back}
-use Rattle.demands.specs.Demands.{FirstRound, pagePulses, TwiceWrittenOf, WritingOf}
-use Rattle.demands.proofs.Laws.{CodeLaws, Told, AheadOf}
-use Rattle.demands.proofs.Laid.{Sound, sound256, laid-row, laid-put, laid-round}
+use Rattle.demands.specs.Demands.{Known, TwiceWrittenOf, WritingOf}
+use Rattle.demands.proofs.Laws.{CodeLaws, Told, HoldsOf, AheadOf}
+use Rattle.demands.proofs.Laid.{laid-row, laid-put, laid-round}
 use Rattle.demands.proofs.Kept.{kept-fillAll}
 use Rattle.demands.proofs.Origins.{formed-putAll, origins}
 use Rattle.demands.proofs.Written.{twice-of, writing-of}
@@ -147,14 +151,32 @@ pub ahead-filled : {σ : Shape} → Sound σ → AheadOf fillCode (filledPage σ
 unfolding filledPage
 ahead-filled {σ} f P p = ap (λ (l : List ℕ). putWords l (fillAll (pageWords P (σ .words)))) (header-is f stateFilled P p)
 
-pub fill-taken : (P : List ℕ) → FirstRound P → fillPageAnswer P ≡ result (pagePulses P)
-fill-taken P f = check-taken page256 P _ _ (f .of-bytes) .1 (f, refl)
+-- both shapes are sound
+pub sound-known : (σ : Shape) → Known σ → Sound σ
+sound-known σ k = ⊎-elim (λ e. subst Sound (sym e) sound256) (λ e. subst Sound (sym e) sound512) k
 
-pub fill-leaves : (P : List ℕ) → FirstRound P → fillPageLeaves P ≡ filledPage page256 P
-fill-leaves P f = taken-leaves (fillPageAnswer P) P (filledPage page256 P) _ (fill-taken P f)
+module _ {σ : Shape} (f : Sound σ) where
+  pub fill-taken : (P : List ℕ) → FirstRoundOf σ P → fillPageAnswer P ≡ result (pulsesOf σ P)
+  fill-taken P p = rw (own-shape f P (p .sized)) (check-taken σ P _ _ (p .of-bytes) .1 (p, refl))
 
-pub ahead-fill : AheadOf fillCode fillPageLeaves page256
-ahead-fill P p = fill-leaves P p ∙ ahead-filled sound256 P p
+  pub fill-leaves : (P : List ℕ) → FirstRoundOf σ P → fillPageLeaves P ≡ filledPage σ P
+  fill-leaves P p =
+      taken-leaves (fillPageAnswer P) P (filledPage (shapeOf P) P) _ (fill-taken P p) ∙ ap (λ (s : Shape). filledPage s P) (own-shape f P (p .sized))
+
+  pub ahead-fill : AheadOf fillCode fillPageLeaves σ
+  ahead-fill P p = fill-leaves P p ∙ ahead-filled f P p
+
+  -- one byte tells the length
+  pub told-fill : Told fillCode σ
+  told-fill = omega (arith, f .few)
+
+  -- ---- demands 2 and 3
+
+  pub fill-twice : TwiceWrittenOf fillCode fillPageLeaves σ
+  fill-twice = twice-of f fill-laws told-fill (own-shape f) ahead-fill
+
+  pub fill-writing : WritingOf fillCode fillPageLeaves σ
+  fill-writing = writing-of f fill-laws told-fill (own-shape f) ahead-fill
 
 pub ahead-inspect : AheadOf inspectCode (λ P. P) page256
 ahead-inspect P p =
@@ -162,24 +184,14 @@ ahead-inspect P p =
     ∙ sym (rw (p .byte2-zero) at (laid-put sound256 P (p .of-bytes) (p .sized) stateFirst 0 (pageWords P 44) (omega arith) (omega arith)
     (laid-row sound256 P (p .sized))))
 
--- ---- one byte tells the length
-
-pub told-fill : Told fillCode page256
-told-fill = omega arith
-
 pub told-inspect : Told inspectCode page256
 told-inspect = omega arith
 
--- ---- demands 2 and 3
+pub holds-inspect : HoldsOf inspectCode page256
+holds-inspect P l = refl
 
-pub fill-twice : TwiceWrittenOf fillCode fillPageLeaves
-fill-twice = twice-of fill-laws told-fill ahead-fill
+pub inspect-twice : TwiceWrittenOf inspectCode (λ P. P) page256
+inspect-twice = twice-of sound256 inspect-laws told-inspect holds-inspect ahead-inspect
 
-pub inspect-twice : TwiceWrittenOf inspectCode (λ P. P)
-inspect-twice = twice-of inspect-laws told-inspect ahead-inspect
-
-pub fill-writing : WritingOf fillCode fillPageLeaves
-fill-writing = writing-of fill-laws told-fill ahead-fill
-
-pub inspect-writing : WritingOf inspectCode (λ P. P)
-inspect-writing = writing-of inspect-laws told-inspect ahead-inspect
+pub inspect-writing : WritingOf inspectCode (λ P. P) page256
+inspect-writing = writing-of sound256 inspect-laws told-inspect holds-inspect ahead-inspect

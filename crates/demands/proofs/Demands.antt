@@ -1,14 +1,16 @@
 -- The three demands of specs/Demands.antt.
 -- Assumes nothing.
-use mathlib.Core.List.{List, []}
+use mathlib.Core.List.{List, [], _∷_}
 use mathlib.Core.Logic.{_↔_, _⊎_, inl, inr, ⊎-elim, Iff·trans}
-use mathlib.Core.Path.{_≡_, refl, sym, ap, ap₂, _∙_}
+use mathlib.Core.Path.{_≡_, refl, sym, ap, ap₂, _∙_, subst}
 use Prim.Native.Nat.{ℕ, _≤_}
 use native.Mathlib.Omega.{arith}
-use lib.Dec.{T}
-use lib.ListN.{length, getD}
+use lib.Dec.{T, eqb, eqb→eq}
+use lib.ListN.{length, drop, getD, drop-of-length-le}
+use lib.Seq.{drop-cons}
+use mir.Facts.{and-yes}
 use Rattle.cells.specs.Cells.{number, cells, pulses}
-use Rattle.cells.specs.Bytes.{Bytes, atStart}
+use Rattle.cells.specs.Bytes.{Bytes, zeros, atStart}
 use Rattle.answer.specs.Answer.{result, answer, numbers}
 use Rattle.answer.proofs.Chains.{no-other, refused-leaves}
 use Rattle.window.specs.Words.{pageWords}
@@ -18,19 +20,20 @@ use Rattle.word.specs.Fill.{fill, fillPulses, capacity, setBeforeLast}
 use Rattle.word.specs.Answer.{legalChecks, encodeAnswer, decodeAnswer, fillAnswer, capacityAnswer}
 use Rattle.word.proofs.Answers.{legal-taken}
 use Rattle.word.proofs.Claims.{one-legal-word, legal-accepted, capacity-bounds}
-use Rattle.rows.specs.Page.{page256, firstRecord, firstPage, filledPage}
-use Rattle.rows.specs.Code.{fillCode}
+use Rattle.rows.specs.declared.shape.Shape.{Shape}
+use Rattle.rows.specs.Page.{page256, page512, shapeFor, shapeOf, tail, firstRecord, firstPage, filledPage, FirstRoundOf}
+use Rattle.rows.specs.Code.{fillCode, FitsOf, outcomeOf}
+use Rattle.rows.proofs.Shapes.{for-512, for-other, sizes, sound256, sound512, sound-for}
 use Rattle.page.specs.Answer.{writeFirstChecks, writeFirstAnswer, firstChecks, readFirstChecks, readFirstAnswer}
 use Rattle.page.proofs.FirstAnswers.{write-first, write-first-1, write-first-2, write-first-4, read-first, read-first-1567, read-first-3, check-refusals, check-taken}
 use Rattle.filled.specs.Answer.{fillPageAnswer, fillPageLeaves, filledChecks, capacityChecks, pageCapacityAnswer}
 use Rattle.filled.proofs.FilledAnswers.{capacity-taken, capacity-1, capacity-5, capacity-6, capacity-7}
-use Rattle.second.specs.Answer.{writeSecondAnswer}
 use Rattle.inspect.specs.Rows.{inspectCode}
-use Rattle.demands.specs.Demands.{FirstRound, Filled, Fits, outcome, dataCells, filledCells, Demand1, Demand2, Demand3}
-use Rattle.demands.proofs.FirstPages.{first-round, word-of, sum-of, written, read-back}
+use Rattle.demands.specs.Demands.{dataCellsOf, filledCellsOf, Sized, FirstRound, Filled, tailOf, Demand1, Demand2, Demand3}
+use Rattle.demands.proofs.FirstPages.{first-pages}
 use Rattle.demands.proofs.Written.{writer-of, reader-of}
-use Rattle.demands.proofs.Codes.{fill-laws, inspect-laws, fill-taken, fill-twice, inspect-twice, fill-writing, inspect-writing}
-use Rattle.demands.proofs.Bounds.{capacity-is, capacity-counts, room-is, room-stays, room-over, bounds, least-filled, least-met, greatest-met}
+use Rattle.demands.proofs.Codes.{fill-laws, inspect-laws, sound-known, fill-taken, fill-twice, inspect-twice, fill-writing, inspect-writing}
+use Rattle.demands.proofs.Bounds.{capacity-is, room-is, figures-of}
 
 -- ---- demand 1, words
 
@@ -65,11 +68,54 @@ word-capacity w c = Iff·trans (legal-accepted .exactly w _ c) (λ h. (h .0, h .
 -- ---- demand 1, pages
 
 page-capacity : (P : List ℕ) (c : ℕ) → Bytes P
-    → (pageCapacityAnswer P ≡ result c) ↔ ((FirstRound P × (c ≡ dataCells P)) ⊎ (Filled P × (c ≡ filledCells P)))
+    → (pageCapacityAnswer P ≡ result c) ↔ ((FirstRound P × (c ≡ dataCellsOf (shapeOf P) P)) ⊎ (Filled P × (c ≡ filledCellsOf (shapeOf P) P)))
 page-capacity P c b =
-    Iff·trans (capacity-taken page256 P c b) (
-      λ h. ⊎-elim (λ g. inl (g .0, g .1 ∙ capacity-is P (g .0))) (λ g. inr (g .0, g .1 ∙ room-is P (g .0))) h,
-      λ h. ⊎-elim (λ g. inl (g .0, g .1 ∙ sym (capacity-is P (g .0)))) (λ g. inr (g .0, g .1 ∙ sym (room-is P (g .0)))) h,
+    let f = sound-for (length P) in
+    Iff·trans (capacity-taken (shapeOf P) P c b) (
+      λ h. ⊎-elim (λ g. inl (g .0, g .1 ∙ capacity-is f P (g .0))) (λ g. inr (g .0, g .1 ∙ room-is f P (g .0))) h,
+      λ h. ⊎-elim (λ g. inl (g .0, g .1 ∙ sym (capacity-is f P (g .0)))) (λ g. inr (g .0, g .1 ∙ sym (room-is f P (g .0)))) h,
+    )
+
+-- ---- demand 1, a page's own shape
+
+neither : (P : List ℕ) → (¬ Sized P) ↔ (¬ (length P ≡ 256) × ¬ (length P ≡ 512))
+neither P = (
+  λ n. (λ e. n (sizes (length P) .1 (inl e)), λ e. n (sizes (length P) .1 (inr e))),
+  λ h z. ⊎-elim (h .0) (h .1) (sizes (length P) .0 z),
+)
+
+shape-256 : (P : List ℕ) → length P ≡ 256 → (shapeOf P .words ≡ 44) × (shapeOf P .first ≡ 176) × (tailOf P ≡ [])
+shape-256 P l =
+    let e : shapeOf P ≡ page256 = for-other (length P) (omega arith) in (
+      ap (λ (s : Shape). s .words) e,
+      ap (λ (s : Shape). s .first) e,
+      ap (λ (s : Shape). tail (s .words) P) e ∙ drop-of-length-le P (omega arith),
+    )
+
+-- the last three bytes
+last-three : (P : List ℕ) → length P ≡ 512 → T (zeros (tail 88 P)) ↔ ((getD P 509 0 ≡ 0) × (getD P 510 0 ≡ 0) × (getD P 511 0 ≡ 0))
+unfolding zeros
+last-three P l =
+    let e : tail 88 P ≡ getD P 509 0 ∷ getD P 510 0 ∷ getD P 511 0 ∷ [] =
+    drop-cons P 509 0 (omega arith)
+    ∙ ap (λ (x : List ℕ). getD P 509 0 ∷ x)
+    (drop-cons P 510 0 (omega arith)
+    ∙ ap (λ (x : List ℕ). getD P 510 0 ∷ x) (drop-cons P 511 0 (omega arith) ∙ ap (λ (x : List ℕ). getD P 511 0 ∷ x) (drop-of-length-le P (omega arith)))) in (
+      λ t.
+          let a = and-yes (eqb (getD P 509 0) 0) _ (subst (λ (x : List ℕ). T (zeros x)) e t) in
+          let b = and-yes (eqb (getD P 510 0) 0) _ (a .1) in
+          let c = and-yes (eqb (getD P 511 0) 0) _ (b .1) in
+          (eqb→eq (getD P 509 0) 0 (a .0), eqb→eq (getD P 510 0) 0 (b .0), eqb→eq (getD P 511 0) 0 (c .0)),
+      λ h. rw e (rw (h .0, h .1, h .2) tt),
+    )
+
+shape-512 : (P : List ℕ) → length P ≡ 512
+    → (shapeOf P .words ≡ 88) × (shapeOf P .first ≡ 352) × (T (zeros (tailOf P)) ↔ ((getD P 509 0 ≡ 0) × (getD P 510 0 ≡ 0) × (getD P 511 0 ≡ 0)))
+shape-512 P l =
+    let e : shapeOf P ≡ page512 = for-512 (length P) l in (
+      ap (λ (s : Shape). s .words) e,
+      ap (λ (s : Shape). s .first) e,
+      rw e (last-three P l),
     )
 
 -- ---- demand 1
@@ -82,80 +128,69 @@ demand1 = record {
   decode-word = decodes;
   fill-word = fills;
   word-capacity = word-capacity;
-  write-first = write-first page256;
-  read-first = read-first page256;
+  write-first = λ P. write-first (shapeOf P) P;
+  read-first = λ P. read-first (shapeOf P) P;
   page-capacity = page-capacity;
-  fill-page = λ P n. check-taken page256 P _ n;
+  fill-page = λ P n. check-taken (shapeOf P) P _ n;
   decode-word-10-11-12 = λ w. legal-accepted .refused w _;
   fill-word-10-11-12 = λ w. legal-accepted .refused w _;
   word-capacity-10-11-12 = λ w. legal-accepted .refused w _;
-  write-first-1 = write-first-1 page256;
-  write-first-2 = write-first-2 page256;
-  write-first-4 = write-first-4 page256;
-  forty-four = λ P. (length-pageWords P 44, λ i h. getD-pageWords P 44 i h);
-  read-first-1567 = read-first-1567 page256;
-  read-first-3 = read-first-3 page256;
-  page-capacity-1 = capacity-1 page256;
-  page-capacity-5 = capacity-5 page256;
-  page-capacity-6 = capacity-6 page256;
-  page-capacity-7 = capacity-7 page256;
-  fill-page-1567 = λ P. check-refusals page256 P _;
+  sized = λ P. sizes (length P);
+  neither = neither;
+  shape-256 = shape-256;
+  shape-512 = shape-512;
+  inspect-shape = λ P. refl;
+  write-first-1 = λ P. write-first-1 (shapeOf P) P;
+  write-first-2 = λ P. write-first-2 (shapeOf P) P;
+  write-first-4 = λ P. write-first-4 (shapeOf P) P;
+  words-at = λ P. (length-pageWords P (shapeOf P .words), λ i h. getD-pageWords P (shapeOf P .words) i h);
+  read-first-1567 = λ P. read-first-1567 (shapeOf P) P;
+  read-first-3 = λ P. read-first-3 (shapeOf P) P;
+  page-capacity-1 = λ P. capacity-1 (shapeOf P) P;
+  page-capacity-5 = λ P. capacity-5 (shapeOf P) P;
+  page-capacity-6 = λ P. capacity-6 (shapeOf P) P;
+  page-capacity-7 = λ P. capacity-7 (shapeOf P) P;
+  fill-page-1567 = λ P. check-refusals (shapeOf P) P _;
   encode-word-by = λ value. no-other [] _;
   decode-word-by = λ w. no-other (legalChecks w) _;
   fill-word-by = λ w. no-other (legalChecks w) _;
   word-capacity-by = λ w. no-other (legalChecks w) _;
-  write-first-by = λ P D. no-other (writeFirstChecks page256 P D) 0;
-  read-first-by = λ P out. no-other (readFirstChecks page256 P out) 0;
-  page-capacity-by = λ P. no-other (capacityChecks page256 P) _;
-  fill-page-by = λ P. no-other (firstChecks page256 P) _;
-  write-first-refused = λ P D n i. refused-leaves (writeFirstAnswer P D) P (firstPage page256 P D) n i;
-  read-first-refused = λ P out n i. refused-leaves (readFirstAnswer P out) out (atStart (firstRecord (pageWords P 44)) out) n i;
-  fill-page-refused = λ P n i. refused-leaves (fillPageAnswer P) P (filledPage page256 P) n i;
+  write-first-by = λ P D. no-other (writeFirstChecks (shapeOf P) P D) 0;
+  read-first-by = λ P out. no-other (readFirstChecks (shapeOf P) P out) 0;
+  page-capacity-by = λ P. no-other (capacityChecks (shapeOf P) P) _;
+  fill-page-by = λ P. no-other (firstChecks (shapeOf P) P) _;
+  write-first-refused = λ P D n i. refused-leaves (writeFirstAnswer P D) P (firstPage (shapeOf P) P D) n i;
+  read-first-refused = λ P out n i. refused-leaves (readFirstAnswer P out) out (atStart (firstRecord (pageWords P (shapeOf P .words))) out) n i;
+  fill-page-refused = λ P n i. refused-leaves (fillPageAnswer P) P (filledPage (shapeOf P) P) n i;
   write-second = writer-of fillCode;
   read-second = reader-of fillCode (fill-laws .same-judged);
   write-inspect = writer-of inspectCode;
   read-inspect = reader-of inspectCode (inspect-laws .same-judged);
-  longest-lengths = (refl, refl);
+  longest-lengths = (refl, refl, refl);
 }
 
 -- ---- demand 2
 
 pub demand2 : Demand2
 demand2 = record {
-  first-round = first-round;
-  word-of = word-of;
-  sum-of = sum-of;
-  written = written;
-  read-back = read-back;
-  fill-code = fill-twice;
+  first-pages = λ s k. first-pages (sound-known s k);
+  fill-code = λ s k. fill-twice (sound-known s k);
   inspect = inspect-twice;
 }
 
 -- ---- demand 3
 
-codes-differ : (P Q R S : List ℕ) → FirstRound P → FirstRound Q → Fits fillCode R P → Fits inspectCode S Q
-    → ¬ (getD (outcome fillCode P R) 0 0 ≡ getD (outcome inspectCode Q S) 0 0)
-codes-differ P Q R S p q r s e = omega (arith, e, fill-writing .header P R p r .0, inspect-writing .header Q S q s .0)
-
-eighty-two-filled : (F R : List ℕ) → Filled F → length R ≤ 82 → writeSecondAnswer F R ≡ result 0
-eighty-two-filled F R q h = writer-of fillCode .accepted F R 0 (q .of-bytes) .1 (q, omega (arith, least-filled F q), refl)
+codes-differ : (P Q R S : List ℕ) → FirstRoundOf page256 P → FirstRoundOf page256 Q → FitsOf fillCode page256 R P → FitsOf inspectCode page256 S Q
+    → ¬ (getD (outcomeOf fillCode page256 P R) 0 0 ≡ getD (outcomeOf inspectCode page256 Q S) 0 0)
+codes-differ P Q R S p q r s e = omega (arith, e, fill-writing sound256 .header P R p r .0, inspect-writing .header Q S q s .0)
 
 pub demand3 : Demand3
 demand3 = record {
-  fill-accepted = λ P f. (fill-taken P f, fill-twice .ready (fillPageLeaves P) .1 (P, f, refl));
-  fill-code = fill-writing;
+  fill-accepted = λ s k P p. let f = sound-known s k in (fill-taken f P p, fill-twice f .ready (fillPageLeaves P) .1 (P, p, refl));
+  fill-code = λ s k. fill-writing (sound-known s k);
   inspect = inspect-writing;
   codes-differ = codes-differ;
-  capacity-counts = capacity-counts;
-  capacity-is = capacity-is;
-  room-is = room-over;
-  capacity-stays = room-stays;
-  filled-room = λ F R q. room-is F q;
-  least = λ P f. bounds P f .0;
-  greatest = λ P f. bounds P f .1;
-  least-met = least-met;
-  greatest-met = greatest-met;
-  eighty-two = fill-writing .always-in;
-  eighty-two-filled = eighty-two-filled;
-  sure-lengths = (refl, refl);
+  figures = figures-of sound256 660 1012 82 126 refl refl refl refl;
+  figures-512 = figures-of sound512 1320 2024 165 253 refl refl refl refl;
+  sure-lengths = (refl, refl, refl);
 }

@@ -3,7 +3,7 @@
 -- Assumes nothing.
 use mathlib.Core.Bool.{Bool, false}
 use mathlib.Core.List.{List, [], _∷_, _++_}
-use mathlib.Core.Logic.{inr}
+use mathlib.Core.Logic.{inl, inr}
 use mathlib.Core.Path.{_≡_, refl, sym, ap, ap₂, _∙_, subst}
 use Prim.Native.Nat.{ℕ, suc, _+_, _*_, _≤_, _<_}
 use native.Mathlib.Omega.{arith}
@@ -17,15 +17,17 @@ use Rattle.word.specs.Word.{sparse, legal}
 use Rattle.word.specs.Fill.{read, isFilled}
 use Rattle.word.specs.Earlier.{fillEarlier, capacityEarlier}
 use Rattle.word.proofs.Earlier.{length-earlier, earlier-words}
-use Rattle.rows.specs.Page.{page256, stateFilled, stateSecond, sumOver, capacityAll, readAll, putAll}
-use Rattle.rows.specs.Code.{fillCode, roomFor, writtenOf}
+use Rattle.rows.specs.declared.shape.Shape.{Shape}
+use Rattle.rows.specs.Page.{page256, shapeOf, tail, stateFilled, stateSecond, sumOver, capacityAll, readAll, putAll, FirstRoundOf, FilledOf}
+use Rattle.rows.specs.Code.{fillCode, roomFor, roomAhead, ReadyOf, FitsOf, writtenOf, outcomeOf}
 use Rattle.rows.proofs.EachWord.{Each, each-sparse, each-word, Row}
 use Rattle.rows.proofs.SecondWords.{row-putAll}
+use Rattle.rows.proofs.Shapes.{sound256, own-shape}
 use Rattle.filled.specs.Answer.{fillPageLeaves, pageCapacityAnswer}
 use Rattle.second.specs.Answer.{writeSecondAnswer, writeSecondLeaves, readSecondAnswer, readSecondLeaves}
-use Rattle.demands.specs.Demands.{FirstRound, Filled, Fits, outcome, roomOver, dataCells, filledCells}
+use Rattle.demands.specs.Demands.{dataCellsOf, filledCellsOf}
 use Rattle.demands.specs.Earlier.{fillEarlierAll, roomEarlier, filledEarlier, outcomeEarlier, EarlierPages}
-use Rattle.demands.proofs.Laid.{wordBytes, sound256, laid, tail, laid-row, laid-words, laid-tail, laid-open, length-tail, laid-put, laid-state}
+use Rattle.demands.proofs.Laid.{laid, laid-row, laid-words, laid-tail, laid-open, length-tail, laid-put, laid-state}
 use Rattle.demands.proofs.Bounds.{capacity-is, room-is, room-over}
 use Rattle.demands.proofs.Demands.{demand1, demand2, demand3}
 
@@ -60,7 +62,7 @@ count-all (w ∷ ws) = omega (arith, length-append (read (fillEarlier w)) (readA
 
 -- ---- pages
 
-module _ (P : List ℕ) (p : FirstRound P) where
+module _ (P : List ℕ) (p : FirstRoundOf page256 P) where
   abbrev words : List (List Bool)
   words = pageWords P 44
 
@@ -77,46 +79,57 @@ module _ (P : List ℕ) (p : FirstRound P) where
   all-filled = filled-all words (each-sparse words (each-word legal P 44 (p .words-pass)))
 
   abbrev t : List ℕ
-  t = tail (wordBytes page256) P
+  t = tail 44 P
 
   filled-is : F ≡ laid stateFilled 0 0 earlier t
   unfolding filledEarlier
   filled-is = rw (p .byte1-zero, p .byte2-zero) at (laid-state sound256 P (p .of-bytes) (p .sized) stateFilled earlier (omega arith) row-of)
 
-  filled-filled : Filled F
+  filled-filled : FilledOf page256 F
   filled-filled =
-      subst Filled (sym filled-is)
+      subst (FilledOf page256) (sym filled-is)
       (laid-open sound256 stateFilled isFilled earlier t (omega arith) row-of all-filled
-      (Bytes-drop (wordBytes page256) (drop 3 P) (Bytes-drop 3 P (p .of-bytes))) (length-tail sound256 P (p .sized)))
+      (Bytes-drop 256 P (p .of-bytes)) (p .tail-zero) (length-tail sound256 P (p .sized)))
+
+  -- its own shape
+  own : shapeOf F ≡ page256
+  own = own-shape sound256 F (filled-filled .sized)
+
+  own-filled : FilledOf (shapeOf F) F
+  own-filled = rw own filled-filled
 
   filled-words : pageWords F 44 ≡ earlier
   filled-words = ap (λ (G : List ℕ). pageWords G 44) filled-is ∙ laid-words sound256 stateFilled 0 0 earlier row-of t
 
-  filled-tail : tail (wordBytes page256) F ≡ t
-  filled-tail = ap (tail (wordBytes page256)) filled-is ∙ laid-tail sound256 stateFilled 0 0 earlier row-of t
+  filled-tail : tail 44 F ≡ t
+  filled-tail = ap (tail 44) filled-is ∙ laid-tail sound256 stateFilled 0 0 earlier row-of t
 
-  capacity-same : roomEarlier P ≡ dataCells P
-  capacity-same = sym (same-sum words) ∙ capacity-is P p
+  capacity-same : roomEarlier P ≡ dataCellsOf page256 P
+  capacity-same = sym (same-sum words) ∙ capacity-is sound256 P p
 
-  room : filledCells F ≡ roomEarlier P
-  room = sym (room-is F filled-filled) ∙ ap (λ (ws : List (List Bool)). length (readAll ws)) filled-words ∙ count-all words
+  room : filledCellsOf page256 F ≡ roomEarlier P
+  room = sym (room-is sound256 F filled-filled) ∙ ap (λ (ws : List (List Bool)). length (readAll ws)) filled-words ∙ count-all words
 
   room-for : (R : List ℕ) → roomEarlier P ≡ roomFor fillCode page256 F R
-  room-for R = sym (demand3 .filled-room F R filled-filled ∙ room)
+  room-for R = sym (demand3 .figures .filled-room F R filled-filled ∙ room)
+
+  own-room : (R : List ℕ) → roomEarlier P ≡ roomFor fillCode (shapeOf F) F R
+  own-room R = room-for R ∙ ap (λ (s : Shape). roomFor fillCode s F R) (sym own)
 
   capacity-stays : pageCapacityAnswer F ≡ result (roomEarlier P)
-  capacity-stays = demand1 .page-capacity F (roomEarlier P) (filled-filled .of-bytes) .1 (inr (filled-filled, sym room))
+  capacity-stays = demand1 .page-capacity F (roomEarlier P) (filled-filled .of-bytes) .1
+      (inr (own-filled, sym (ap (λ (s : Shape). filledCellsOf s F) own ∙ room)))
 
   remains : (R : List ℕ) → roomEarlier P < 8 * length R → (writeSecondAnswer F R ≡ refusal 8 (roomEarlier P)) × (writeSecondLeaves F R ≡ F)
   remains R h =
-      let a = demand1 .write-second .refused-8 F R (roomEarlier P) (filled-filled .of-bytes) .1 (filled-filled, room-for R, h) in
+      let a = demand1 .write-second .refused-8 F R (roomEarlier P) (filled-filled .of-bytes) .1 (own-filled, own-room R, h) in
       (a, demand1 .write-second .refused-leaves F R 8 (roomEarlier P) a)
 
   -- the first-round page whose fill it is now
-  now : (Q : List ℕ) × FirstRound Q × (fillPageLeaves Q ≡ F)
-  now = demand2 .fill-code .ready F .0 filled-filled
+  now : (Q : List ℕ) × FirstRoundOf page256 Q × (fillPageLeaves Q ≡ F)
+  now = demand2 .fill-code page256 (inl refl) .ready F .0 filled-filled
 
-  module _ (R : List ℕ) (r : Fits fillCode R P) where
+  module _ (R : List ℕ) (r : FitsOf fillCode page256 R P) where
     abbrev put-words : List (List Bool)
     put-words = putAll earlier (bits R)
 
@@ -124,7 +137,7 @@ module _ (P : List ℕ) (p : FirstRound P) where
     put-row = row-putAll 44 earlier (bits R) row-of
 
     small : length R < 256
-    small = omega (arith, demand3 .fill-code .never-in P R p r)
+    small = omega (arith, demand3 .fill-code page256 (inl refl) .never-in P R p r)
 
     -- a record over it leaves the outcome of then
     outcome-is : writtenOf fillCode page256 F R ≡ outcomeEarlier P R
@@ -136,37 +149,40 @@ module _ (P : List ℕ) (p : FirstRound P) where
         ∙ ap₂ (λ (ws : List (List Bool)) (u : List ℕ). laid stateSecond (length R) 0 (putAll ws (bits R)) u) filled-words filled-tail
         ∙ sym (rw (p .byte2-zero) at (laid-put sound256 P (p .of-bytes) (p .sized) stateSecond (length R) put-words (omega arith) small put-row))
 
-    room-same : roomOver fillCode P R ≡ roomEarlier P
-    room-same = room-over P R p ∙ sym capacity-same
+    room-same : roomAhead fillCode page256 P R ≡ roomEarlier P
+    room-same = room-over sound256 P R p ∙ sym capacity-same
 
     accepted : (writeSecondAnswer F R ≡ result 0) × (writeSecondLeaves F R ≡ outcomeEarlier P R)
     accepted =
         let a : writeSecondAnswer F R ≡ result 0 =
         demand1 .write-second .accepted F R 0 (filled-filled .of-bytes) .1
-        (filled-filled, omega (arith, room-for R, room-same, r .enough), refl) in
-        (a, taken-leaves (writeSecondAnswer F R) F (writtenOf fillCode page256 F R) 0 a ∙ outcome-is)
+        (own-filled, omega (arith, own-room R, room-same, r .enough), refl) in (
+          a,
+          taken-leaves (writeSecondAnswer F R) F (writtenOf fillCode (shapeOf F) F R) 0 a
+              ∙ ap (λ (s : Shape). writtenOf fillCode s F R) own ∙ outcome-is,
+        )
 
     abbrev Q : List ℕ
     Q = now .0
 
     -- R fits that page too, and leaves the same outcome over it
-    fits : Fits fillCode R Q
+    fits : FitsOf fillCode page256 R Q
     fits =
-        let c : result (dataCells Q) ≡ result (roomEarlier P) = sym (demand3 .capacity-stays Q (now .1)) ∙ ap pageCapacityAnswer (now .2) ∙ capacity-stays in
-        let e : dataCells Q ≡ roomEarlier P = cc in
-        record { of-bytes = r .of-bytes; enough = omega (arith, e, room-same, r .enough, room-over Q R (now .1)) }
+        let c : result (dataCellsOf page256 Q) ≡ result (roomEarlier P) = sym (demand3 .figures .capacity-stays Q (now .1)) ∙ ap pageCapacityAnswer (now .2) ∙ capacity-stays in
+        let e : dataCellsOf page256 Q ≡ roomEarlier P = cc in
+        record { of-bytes = r .of-bytes; enough = omega (arith, e, room-same, r .enough, room-over sound256 Q R (now .1)) }
 
     written-now : writeSecondLeaves (fillPageLeaves Q) R ≡ outcomeEarlier P R
     written-now = ap (λ (G : List ℕ). writeSecondLeaves G R) (now .2) ∙ accepted .1
 
-    same-outcome : outcome fillCode Q R ≡ outcomeEarlier P R
-    same-outcome = sym (demand3 .fill-code .accepted Q R (now .1) fits .1) ∙ written-now
+    same-outcome : outcomeOf fillCode page256 Q R ≡ outcomeEarlier P R
+    same-outcome = sym (demand3 .fill-code page256 (inl refl) .accepted Q R (now .1) fits .1) ∙ written-now
 
     read-back : (out : List ℕ) → length R ≤ length out
         → (readSecondAnswer (outcomeEarlier P R) out ≡ result (length R)) × (readSecondLeaves (outcomeEarlier P R) out ≡ R ++ drop (length R) out)
     read-back out l =
         subst (λ (O : List ℕ). (readSecondAnswer O out ≡ result (length R)) × (readSecondLeaves O out ≡ R ++ drop (length R) out)) same-outcome
-        (demand3 .fill-code .read-back Q R out (now .1) fits l)
+        (demand3 .fill-code page256 (inl refl) .read-back Q R out (now .1) fits l)
 
 pub earlier-pages : EarlierPages
 earlier-pages = record {

@@ -13,27 +13,29 @@ use Rattle.cells.proofs.Bytes.{length-bits}
 use Rattle.cells.proofs.Fits.{bits-alike}
 use Rattle.answer.specs.Answer.{refusal}
 use Rattle.window.specs.Words.{pageWords}
+use Rattle.rows.specs.Page.{page256, FirstRoundOf}
+use Rattle.rows.specs.Code.{FitsOf}
+use Rattle.rows.proofs.Shapes.{sound256}
 use Rattle.walk.proofs.Claims.{zero-legal}
 use Rattle.inspect.specs.Rows.{takenAll, inspectCode}
 use Rattle.inspect.specs.Answer.{writeInspectAnswer}
 use Rattle.inspect.proofs.Rows.{takenAll-bits, takenAll-most, takenAll-least, takenAll-ones, takenAll-zeros}
-use Rattle.demands.specs.Demands.{FirstRound, Fits}
 use Rattle.demands.specs.Inspect.{taken, InspectFigures}
-use Rattle.demands.proofs.Laid.{sound256, laid-row}
+use Rattle.demands.proofs.Laid.{laid-row}
 use Rattle.demands.proofs.Bounds.{all-alike}
 use Rattle.demands.proofs.Written.{writer-of}
 use Rattle.demands.proofs.Codes.{inspect-writing}
 
 -- ---- what the walks take
 
-module _ (P R : List ℕ) (p : FirstRound P) where
+module _ (P R : List ℕ) (p : FirstRoundOf page256 P) where
   taken-most : taken P R ≤ 1980
   taken-most = let r = laid-row sound256 P (p .sized) in omega (arith, takenAll-most (pageWords P 44) (bits R) (r .1), r .0)
 
   taken-enough : 1012 ≤ 8 * length R → 1012 ≤ taken P R
   taken-enough h = let r = laid-row sound256 P (p .sized) in omega (arith, takenAll-least (pageWords P 44) (bits R) (r .1), r .0, length-bits R)
 
-  all-taken : Fits inspectCode R P → taken P R ≡ 8 * length R
+  all-taken : FitsOf inspectCode page256 R P → taken P R ≡ 8 * length R
   all-taken f = omega (arith, f .enough, takenAll-bits (pageWords P 44) (bits R), length-bits R)
 
 -- ---- the figures
@@ -48,8 +50,8 @@ Bytes-alike (suc n) b h zero = h
 Bytes-alike (suc n) b h (suc i) = Bytes-alike n b h i
 
 -- the page of 44 words of zeros: zeros take the most bits of it, ones the least, as of any page
-zero-page : (P : List ℕ) × FirstRound P × (pageWords P 44 ≡ replicate 44 (replicate 46 false))
-zero-page = all-alike (replicate 46 false) zero-legal
+zero-page : (P : List ℕ) × FirstRoundOf page256 P × (pageWords P 44 ≡ replicate 44 (replicate 46 false))
+zero-page = all-alike sound256 (replicate 46 false) zero-legal
 
 abbrev Z : List ℕ
 Z = zero-page .0

@@ -16,7 +16,8 @@ use Rattle.window.proofs.Words.{length-join}
 use Rattle.word.specs.Fill.{fill}
 use Rattle.word.proofs.Claims.{fill-leaves-no-room}
 use Rattle.word.proofs.Filling.{length-fill}
-use Rattle.rows.specs.Page.{Shape, fillAll}
+use Rattle.rows.specs.declared.shape.Shape.{Shape}
+use Rattle.rows.specs.Page.{fillAll}
 use Rattle.rows.proofs.EachWord.{Row}
 use Rattle.demands.proofs.Laid.{Sound, laid, laid-bits}
 

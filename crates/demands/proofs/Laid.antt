@@ -6,39 +6,22 @@ use mathlib.Core.List.{List, [], _∷_, _++_}
 use mathlib.Core.Path.{_≡_, refl, sym, ap, _∙_}
 use Prim.Native.Nat.{ℕ, _+_, _*_, _/_, _≤_, _<_}
 use native.Mathlib.Omega.{arith}
-use lib.ListN.{length, drop, drop-of-length-le, length-drop}
+use lib.Dec.{T}
+use lib.ListN.{length, drop, length-drop}
 use lib.Seq.{drop-at, drop-cons, drop-drop}
-use Rattle.cells.specs.Bytes.{bits, bytes, Bytes}
+use Rattle.cells.specs.Bytes.{bits, bytes, Bytes, zeros}
 use Rattle.cells.proofs.Bytes.{length-bytes, Bytes-drop, Bytes-three}
 use Rattle.window.specs.Words.{join, pageWords, putWords, pageOf}
 use Rattle.window.proofs.Words.{putWords-all, putWords-own, bits-pageOf, length-pageOf, Bytes-pageOf, pageWords-pageOf}
-use Rattle.rows.specs.Page.{page256, Shape, state, byte1, byte2, withHeader, firstWords, firstPage, OpenOf}
+use Rattle.rows.specs.declared.shape.Shape.{Shape}
+use Rattle.rows.specs.Page.{state, byte1, byte2, tail, withHeader, firstWords, firstPage, OpenOf}
 use Rattle.rows.proofs.EachWord.{Each, word-each, Row, row-page}
 use Rattle.rows.proofs.FirstRecord.{row-firstWords}
+use Rattle.rows.proofs.Shapes.{wordBytes, Sound}
 
 -- the page of these three bytes, words and last bytes
 abbrev pub laid : ℕ → ℕ → ℕ → List (List Bool) → List ℕ → List ℕ
 laid a b c ws t = pageOf (a ∷ b ∷ c ∷ []) ws t
-
--- the bytes after the words
-abbrev pub tail : ℕ → List ℕ → List ℕ
-tail m page = drop m (drop 3 page)
-
-pub tail-none : (m : ℕ) (page : List ℕ) → length page ≤ 3 + m → tail m page ≡ []
-tail-none m page h = drop-drop m 3 page ∙ drop-of-length-le page h
-
--- the bytes that the words take
-abbrev pub wordBytes : Shape → ℕ
-wordBytes σ = 46 * σ .words / 8
-
--- a shape of page that its laws hold for: its words take whole bytes after the first three, inside the page
-pub record Sound (σ : Shape) : Type 0 where
-  pub whole : 46 * σ .words ≡ 8 * wordBytes σ
-  pub inside : 3 + wordBytes σ ≤ σ .size
-
--- document 01's page
-pub sound256 : Sound page256
-sound256 = record { whole = refl; inside = omega arith }
 
 module _ {σ : Shape} (f : Sound σ) where
   abbrev n : ℕ
@@ -67,24 +50,27 @@ module _ {σ : Shape} (f : Sound σ) where
     pub laid-length : length (laid a b c ws t) ≡ 3 + (m + length t)
     laid-length = length-pageOf ws m (r .1) (whole-row ws r) (a ∷ b ∷ c ∷ []) t
 
-    pub laid-tail : tail m (laid a b c ws t) ≡ t
+    pub laid-tail : tail n (laid a b c ws t) ≡ t
     unfolding pageOf
-    laid-tail = drop-at (bytes (46 * length ws / 8) (join ws)) t m (omega (arith, length-bytes (46 * length ws / 8) (join ws), whole-row ws r))
+    laid-tail =
+        sym (drop-drop m 3 (laid a b c ws t))
+        ∙ drop-at (bytes (46 * length ws / 8) (join ws)) t m (omega (arith, length-bytes (46 * length ws / 8) (join ws), whole-row ws r))
 
     pub laid-Bytes : a < 256 → b < 256 → c < 256 → Bytes t → Bytes (laid a b c ws t)
     laid-Bytes ha hb hc ht =
         Bytes-pageOf ws m (r .1) (whole-row ws r) (a ∷ b ∷ c ∷ []) t (Bytes-three a b c [] ha hb hc (λ i. omega arith)) ht
 
   -- words that pass a test, after a header without a record
-  pub laid-open : (k : ℕ) (test : List Bool → Bool) (ws : List (List Bool)) (t : List ℕ) → k < 256 → Row n ws → Each test ws → Bytes t
+  pub laid-open : (k : ℕ) (test : List Bool → Bool) (ws : List (List Bool)) (t : List ℕ) → k < 256 → Row n ws → Each test ws → Bytes t → T (zeros t)
       → 3 + (m + length t) ≡ σ .size → OpenOf k test σ (laid k 0 0 ws t)
   unfolding pageOf
-  laid-open k test ws t hk r h b s = record {
+  laid-open k test ws t hk r h b z s = record {
     sized = laid-length k 0 0 ws r t ∙ s;
     of-bytes = laid-Bytes k 0 0 ws r t hk (omega arith) (omega arith) b;
     in-state = refl;
     byte1-zero = refl;
     byte2-zero = refl;
+    tail-zero = rw (laid-tail k 0 0 ws r t) z;
     words-pass = word-each test (laid k 0 0 ws t) n ws (laid-words k 0 0 ws r t) h;
   }
 
@@ -93,21 +79,21 @@ module _ {σ : Shape} (f : Sound σ) where
   pub laid-row : (page : List ℕ) → length page ≡ σ .size → Row n (pageWords page n)
   laid-row page l = row-page page n (omega arith)
 
-  pub length-tail : (page : List ℕ) → length page ≡ σ .size → 3 + (m + length (tail m page)) ≡ σ .size
-  length-tail page l = omega (arith, length-drop m (drop 3 page), length-drop 3 page)
+  pub length-tail : (page : List ℕ) → length page ≡ σ .size → 3 + (m + length (tail n page)) ≡ σ .size
+  length-tail page l = omega (arith, length-drop (3 + m) page, f .inside)
 
   module _ (page : List ℕ) (hp : Bytes page) (l : length page ≡ σ .size) where
     -- the first two bytes and the words replaced
     pub laid-put : (a b : ℕ) (ws : List (List Bool)) → a < 256 → b < 256 → Row n ws
-        → putWords (withHeader a b page) ws ≡ laid a b (byte2 page) ws (tail m page)
+        → putWords (withHeader a b page) ws ≡ laid a b (byte2 page) ws (tail n page)
     laid-put a b ws ha hb r =
         let p : List ℕ = a ∷ b ∷ byte2 page ∷ drop 3 page in
         ap (λ (x : List ℕ). putWords (a ∷ b ∷ x) ws) (drop-cons page 2 0 (omega arith))
         ∙ putWords-all ws m (r .1) (whole-row ws r) p
         (Bytes-three a b (byte2 page) (drop 3 page) ha hb (hp 2) (Bytes-drop 3 page hp)) (omega (arith, length-drop 3 page))
-        ∙ ap (laid a b (byte2 page) ws) (sym (drop-drop m 3 p))
+        ∙ ap (laid a b (byte2 page) ws) (sym (drop-drop m 3 p) ∙ drop-drop m 3 page)
 
-    pub laid-own : laid (state page) (byte1 page) (byte2 page) (pageWords page n) (tail m page) ≡ page
+    pub laid-own : laid (state page) (byte1 page) (byte2 page) (pageWords page n) (tail n page) ≡ page
     laid-own =
         sym (laid-put (state page) (byte1 page) (pageWords page n) (hp 0) (hp 1) (laid-row page l))
         ∙ ap (λ (p : List ℕ). putWords p (pageWords page n))
@@ -116,15 +102,15 @@ module _ {σ : Shape} (f : Sound σ) where
 
     -- the state and the words replaced
     pub laid-state : (a : ℕ) (ws : List (List Bool)) → a < 256 → Row n ws
-        → putWords (a ∷ drop 1 page) ws ≡ laid a (byte1 page) (byte2 page) ws (tail m page)
+        → putWords (a ∷ drop 1 page) ws ≡ laid a (byte1 page) (byte2 page) ws (tail n page)
     laid-state a ws ha r =
         ap (λ (x : List ℕ). putWords (a ∷ x) ws) (drop-cons page 1 0 (omega arith)) ∙ laid-put a (byte1 page) ws ha (hp 1) r
 
     -- a first record written
-    pub laid-firstPage : (bs : List ℕ) → firstPage σ page bs ≡ laid 1 (byte1 page) (byte2 page) (firstWords n bs) (tail m page)
+    pub laid-firstPage : (bs : List ℕ) → firstPage σ page bs ≡ laid 1 (byte1 page) (byte2 page) (firstWords n bs) (tail n page)
     unfolding firstPage
     laid-firstPage bs = laid-state 1 (firstWords n bs) (omega arith) (row-firstWords n bs)
 
   -- a page without a record, by its words
-  pub laid-round : (k : ℕ) (test : List Bool → Bool) (P : List ℕ) → OpenOf k test σ P → laid k 0 0 (pageWords P n) (tail m P) ≡ P
+  pub laid-round : (k : ℕ) (test : List Bool → Bool) (P : List ℕ) → OpenOf k test σ P → laid k 0 0 (pageWords P n) (tail n P) ≡ P
   laid-round k test P p = rw (p .in-state, p .byte1-zero, p .byte2-zero) at (laid-own P (p .of-bytes) (p .sized))

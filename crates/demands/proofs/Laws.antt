@@ -10,7 +10,8 @@ use lib.ListN.{length, take}
 use Rattle.cells.specs.Cells.{cells, kept}
 use Rattle.window.specs.Words.{join, Words, pageWords, putWords}
 use Rattle.word.specs.Word.{legal}
-use Rattle.rows.specs.Page.{Shape, stateFirst, withHeader, FirstRoundOf}
+use Rattle.rows.specs.declared.shape.Shape.{Shape}
+use Rattle.rows.specs.Page.{stateFirst, withHeader, FirstRoundOf}
 use Rattle.rows.specs.Code.{Code, longest}
 use Rattle.rows.proofs.EachWord.{Each}
 
@@ -45,6 +46,10 @@ pub record CodeLaws (c : Code) : Type 0 where
 -- one byte can tell the code's longest record
 abbrev pub Told : Code → Shape → Type 0
 Told c σ = longest c σ < 256
+
+-- the code holds pages of a shape's size to that shape
+abbrev pub HoldsOf : Code → Shape → Type 0
+HoldsOf c σ = (P : List ℕ) → length P ≡ σ .size → c .shape P ≡ σ
 
 -- the step ahead of a code's writer leaves its state, no record, and the prepared words
 abbrev pub AheadOf : Code → (List ℕ → List ℕ) → Shape → Type 0

@@ -15,19 +15,20 @@ use Rattle.answer.specs.Answer.{Answer, result, refusal, after}
 use Rattle.window.specs.Words.{pieces, wordAt, pageWords}
 use Rattle.window.proofs.Words.{getD-pageWords}
 use Rattle.word.specs.Fill.{fillFrom, fill, read, capacity, put}
-use Rattle.rows.specs.Page.{page256, blankOf, fillAll, sumOver, capacityAll, putAll, firstPage, filledPage}
-use Rattle.rows.specs.Code.{Code, fillCode, writtenOf}
+use Rattle.rows.specs.declared.shape.Shape.{Shape}
+use Rattle.rows.specs.Page.{page256, shapeOf, blankOf, fillAll, sumOver, capacityAll, putAll, firstPage, filledPage, FirstRoundOf}
+use Rattle.rows.specs.Code.{Code, fillCode, roomFor, ReadyOf, FitsOf, writtenOf, outcomeOf}
+use Rattle.rows.proofs.Shapes.{Sound, sound256, sound-for, own-shape}
 use Rattle.page.specs.Answer.{writeFirstAnswer, writeFirstLeaves, writeAnswer, writeLeaves}
 use Rattle.page.proofs.FirstAnswers.{write-first, check-taken}
 use Rattle.filled.specs.Answer.{fillPageAnswer, fillPageLeaves}
 use Rattle.walk.specs.Walk.{walked, taken}
 use Rattle.inspect.specs.Rows.{walkedAll, takenAll, inspectCode}
-use Rattle.demands.specs.Demands.{FirstRound, words, Ready, Fits, outcome, room, WritingOf}
+use Rattle.demands.specs.Demands.{WritingOf}
 use Rattle.demands.specs.Outcome.{OutcomeByWords, Keeps, NoCellCleared}
-use Rattle.demands.proofs.Laid.{sound256}
 use Rattle.demands.proofs.Coded.{ahead-words}
 use Rattle.demands.proofs.Written.{writer-of, written-keeps}
-use Rattle.demands.proofs.Codes.{fill-laws, inspect-laws, told-fill, told-inspect, ahead-fill, ahead-inspect, fill-leaves, fill-twice, fill-writing, inspect-writing}
+use Rattle.demands.proofs.Codes.{fill-laws, inspect-laws, sound-known, told-fill, told-inspect, holds-inspect, ahead-fill, ahead-inspect, fill-leaves, fill-twice, fill-writing, inspect-writing}
 
 -- ---- word by word
 
@@ -59,29 +60,29 @@ getD-walked (suc n) l bs (suc i) h =
     getD-walked n (drop 46 l) (drop k bs) i (omega arith)
     ∙ ap (walked (getD (pieces n (drop 46 l)) i [])) (drop-drop (takenAll (pieces i (drop 46 l)) (drop k bs)) k bs)
 
-filled-word : (P : List ℕ) → FirstRound P → (i : ℕ) → i < 44 → wordAt (fillPageLeaves P) i ≡ fill (wordAt P i)
-filled-word P p i h =
-    sym (getD-pageWords (fillPageLeaves P) 44 i h)
-    ∙ ap (λ (ws : List (List Bool)). getD ws i []) (ahead-words sound256 fill-laws told-fill ahead-fill P p)
-    ∙ getD-fillAll (pageWords P 44) i
-    ∙ ap fill (getD-pageWords P 44 i h)
+filled-word : {σ : Shape} → Sound σ → (P : List ℕ) → FirstRoundOf σ P → (i : ℕ) → i < σ .words → wordAt (fillPageLeaves P) i ≡ fill (wordAt P i)
+filled-word {σ} f P p i h =
+    sym (getD-pageWords (fillPageLeaves P) (σ .words) i h)
+    ∙ ap (λ (ws : List (List Bool)). getD ws i []) (ahead-words f fill-laws (told-fill f) (ahead-fill f) P p)
+    ∙ getD-fillAll (pageWords P (σ .words)) i
+    ∙ ap fill (getD-pageWords P (σ .words) i h)
 
 -- word i of the outcome, by either code
-outcome-at : {c : Code} {ahead : List ℕ → List ℕ} → WritingOf c ahead → (P R : List ℕ) → FirstRound P → Fits c R P → (i : ℕ) → i < 44
-    → wordAt (outcome c P R) i ≡ getD (c .put (c .prepare (words P)) (bits R)) i []
-outcome-at {c} w P R p r i h =
-    sym (getD-pageWords (outcome c P R) 44 i h) ∙ ap (λ (ws : List (List Bool)). getD ws i []) (w .outcome-words P R p r)
+outcome-at : {c : Code} {ahead : List ℕ → List ℕ} {σ : Shape} → WritingOf c ahead σ → (P R : List ℕ) → FirstRoundOf σ P → FitsOf c σ R P
+    → (i : ℕ) → i < σ .words → wordAt (outcomeOf c σ P R) i ≡ getD (c .put (c .prepare (pageWords P (σ .words))) (bits R)) i []
+outcome-at {c} {σ = σ} w P R p r i h =
+    sym (getD-pageWords (outcomeOf c σ P R) (σ .words) i h) ∙ ap (λ (ws : List (List Bool)). getD ws i []) (w .outcome-words P R p r)
 
-outcome-word : (P R : List ℕ) → FirstRound P → Fits fillCode R P → (i : ℕ) → i < 44
-    → wordAt (outcome fillCode P R) i ≡ put (fill (wordAt P i)) (drop (capacityAll (pageWords P i)) (bits R))
+outcome-word : {σ : Shape} → Sound σ → (P R : List ℕ) → FirstRoundOf σ P → FitsOf fillCode σ R P → (i : ℕ) → i < σ .words
+    → wordAt (outcomeOf fillCode σ P R) i ≡ put (fill (wordAt P i)) (drop (capacityAll (pageWords P i)) (bits R))
 unfolding pageWords
-outcome-word P R p r i h =
-    outcome-at fill-writing P R p r i h
-    ∙ getD-put 44 (drop 24 (bits P)) (bits R) i h
-    ∙ ap (λ (w : List Bool). put (fill w) (drop (capacityAll (pageWords P i)) (bits R))) (getD-pageWords P 44 i h)
+outcome-word {σ} f P R p r i h =
+    outcome-at (fill-writing f) P R p r i h
+    ∙ getD-put (σ .words) (drop 24 (bits P)) (bits R) i h
+    ∙ ap (λ (w : List Bool). put (fill w) (drop (capacityAll (pageWords P i)) (bits R))) (getD-pageWords P (σ .words) i h)
 
-inspect-word : (P R : List ℕ) → FirstRound P → Fits inspectCode R P → (i : ℕ) → i < 44
-    → wordAt (outcome inspectCode P R) i ≡ walked (wordAt P i) (drop (takenAll (pageWords P i) (bits R)) (bits R))
+inspect-word : (P R : List ℕ) → FirstRoundOf page256 P → FitsOf inspectCode page256 R P → (i : ℕ) → i < 44
+    → wordAt (outcomeOf inspectCode page256 P R) i ≡ walked (wordAt P i) (drop (takenAll (pageWords P i) (bits R)) (bits R))
 unfolding pageWords
 inspect-word P R p r i h =
     outcome-at inspect-writing P R p r i h
@@ -90,9 +91,10 @@ inspect-word P R p r i h =
 
 pub outcome-by-words : OutcomeByWords
 outcome-by-words = record {
-  filled-header = λ P p. let q = fill-twice .ready (fillPageLeaves P) .1 (P, p, refl) in (q .in-state, q .byte1-zero, q .byte2-zero);
-  filled-word = filled-word;
-  outcome-word = outcome-word;
+  filled-header = λ s k P p.
+      let q = fill-twice (sound-known s k) .ready (fillPageLeaves P) .1 (P, p, refl) in (q .in-state, q .byte1-zero, q .byte2-zero);
+  filled-word = λ s k. filled-word (sound-known s k);
+  outcome-word = λ s k. outcome-word (sound-known s k);
   inspect-word = inspect-word;
 }
 
@@ -112,21 +114,24 @@ getD-zeros (suc n) (suc i) = getD-zeros n i
 first-keeps : (P D : List ℕ) → Keeps P (writeFirstLeaves P D)
 unfolding blankOf
 first-keeps P D =
-    keeps-after (writeFirstAnswer P D) P (firstPage page256 P D) (λ v e i b t.
-    let blank : P ≡ replicate 256 0 = write-first page256 P D v .0 e .0 in
-    absurd (subst T (ap (λ (Q : List ℕ). bit (getD Q i 0) b) blank ∙ ap (λ (x : ℕ). bit x b) (getD-zeros 256 i) ∙ bit-zero b) t))
+    keeps-after (writeFirstAnswer P D) P (firstPage (shapeOf P) P D) (λ v e i b t.
+    let n = shapeOf P .size in
+    let blank : P ≡ replicate n 0 = write-first (shapeOf P) P D v .0 e .0 in
+    absurd (subst T (ap (λ (Q : List ℕ). bit (getD Q i 0) b) blank ∙ ap (λ (x : ℕ). bit x b) (getD-zeros n i) ∙ bit-zero b) t))
 
 fill-keeps : (P : List ℕ) → Bytes P → Keeps P (fillPageLeaves P)
 fill-keeps P h =
-    keeps-after (fillPageAnswer P) P (filledPage page256 P) (λ v e.
-    let p = check-taken page256 P _ v h .0 e .0 in
-    subst (Keeps P) (fill-leaves P p) (fill-writing .ahead-clears-none P p))
+    keeps-after (fillPageAnswer P) P (filledPage (shapeOf P) P) (λ v e.
+    let f = sound-for (length P) in
+    let p = check-taken (shapeOf P) P _ v h .0 e .0 in
+    subst (Keeps P) (fill-leaves f P p) (fill-writing f .ahead-clears-none P p))
 
 -- by either code
-write-keeps : (c : Code) → ((F R : List ℕ) → Ready c F → Bytes R → 8 * length R ≤ room c F R → Keeps F (writtenOf c page256 F R))
-    → (P R : List ℕ) → Bytes P → Bytes R → Keeps P (writeLeaves c P R)
-write-keeps c w P R h k =
-    keeps-after (writeAnswer c P R) P (writtenOf c page256 P R) (λ v e.
+write-keeps : (c : Code) (P R : List ℕ)
+    → ((F R : List ℕ) → ReadyOf c (c .shape P) F → Bytes R → 8 * length R ≤ roomFor c (c .shape P) F R → Keeps F (writtenOf c (c .shape P) F R))
+    → Bytes P → Bytes R → Keeps P (writeLeaves c P R)
+write-keeps c P R w h k =
+    keeps-after (writeAnswer c P R) P (writtenOf c (c .shape P) P R) (λ v e.
     let a = writer-of c .accepted P R v h .0 e in
     w P R (a .0) k (a .1))
 
@@ -134,6 +139,8 @@ pub no-cell-cleared : NoCellCleared
 no-cell-cleared = record {
   write-first = first-keeps;
   fill-page = fill-keeps;
-  write-second = write-keeps fillCode (written-keeps fill-laws told-fill ahead-fill);
-  write-inspect = write-keeps inspectCode (written-keeps inspect-laws told-inspect ahead-inspect);
+  write-second = λ P R.
+      let f = sound-for (length P) in
+      write-keeps fillCode P R (written-keeps f fill-laws (told-fill f) (own-shape f) (ahead-fill f));
+  write-inspect = λ P R. write-keeps inspectCode P R (written-keeps sound256 inspect-laws told-inspect holds-inspect ahead-inspect);
 }

@@ -10,11 +10,11 @@ use Rattle.cells.specs.Bytes.{bits}
 use Rattle.answer.specs.Answer.{result, refusal}
 use Rattle.window.specs.Words.{pageWords, putWords}
 use Rattle.word.specs.Earlier.{fillEarlier, capacityEarlier}
-use Rattle.rows.specs.Page.{stateFilled, stateSecond, withHeader, sumOver, putAll}
-use Rattle.rows.specs.Code.{fillCode}
+use Rattle.rows.specs.Page.{page256, stateFilled, stateSecond, withHeader, sumOver, putAll, FirstRoundOf, FilledOf}
+use Rattle.rows.specs.Code.{fillCode, FitsOf}
 use Rattle.filled.specs.Answer.{fillPageLeaves, pageCapacityAnswer}
 use Rattle.second.specs.Answer.{writeSecondAnswer, writeSecondLeaves, readSecondAnswer, readSecondLeaves}
-use Rattle.demands.specs.Demands.{FirstRound, Filled, Fits, dataCells}
+use Rattle.demands.specs.Demands.{dataCellsOf}
 
 unfoldable pub fillEarlierAll : List (List Bool) → List (List Bool)
 fillEarlierAll [] = []
@@ -32,24 +32,24 @@ filledEarlier P = putWords (stateFilled ∷ drop 1 P) (fillEarlierAll (pageWords
 unfoldable pub outcomeEarlier : List ℕ → List ℕ → List ℕ
 outcomeEarlier P R = putWords (withHeader stateSecond (length R) P) (putAll (fillEarlierAll (pageWords P 44)) (bits R))
 
--- Of every first-round page P, and every record R that fits it:
+-- Of every first-round page P of 256 bytes (there were no others), and every record R that fits it:
 pub record EarlierPages : Type 0 where
   -- "Capacities do not move."
-  pub capacity-same : (P : List ℕ) → FirstRound P → roomEarlier P ≡ dataCells P
+  pub capacity-same : (P : List ℕ) → FirstRoundOf page256 P → roomEarlier P ≡ dataCellsOf page256 P
   -- "which admits every page filled earlier": what the earlier fill left of P is a filled page
-  pub filled : (P : List ℕ) → FirstRound P → Filled (filledEarlier P)
+  pub filled : (P : List ℕ) → FirstRoundOf page256 P → FilledOf page256 (filledEarlier P)
   -- ... and it is also what filling some first-round page leaves now, so that "exactly when", in demand 2, holds of it
-  pub filled-by-now : (P : List ℕ) → FirstRound P → (Q : List ℕ) × FirstRound Q × (fillPageLeaves Q ≡ filledEarlier P)
+  pub filled-by-now : (P : List ℕ) → FirstRoundOf page256 P → (Q : List ℕ) × FirstRoundOf page256 Q × (fillPageLeaves Q ≡ filledEarlier P)
   -- page capacity answers for it what it answered then
-  pub capacity-stays : (P : List ℕ) → FirstRound P → pageCapacityAnswer (filledEarlier P) ≡ result (roomEarlier P)
+  pub capacity-stays : (P : List ℕ) → FirstRoundOf page256 P → pageCapacityAnswer (filledEarlier P) ≡ result (roomEarlier P)
   -- write second takes R over it and leaves the outcome that it left then; a record that had no room is refused by 8 with that capacity
-  pub accepted : (P R : List ℕ) → FirstRound P → Fits fillCode R P
+  pub accepted : (P R : List ℕ) → FirstRoundOf page256 P → FitsOf fillCode page256 R P
       → (writeSecondAnswer (filledEarlier P) R ≡ result 0) × (writeSecondLeaves (filledEarlier P) R ≡ outcomeEarlier P R)
-  pub remains-filled : (P R : List ℕ) → FirstRound P → roomEarlier P < 8 * length R
+  pub remains-filled : (P R : List ℕ) → FirstRoundOf page256 P → roomEarlier P < 8 * length R
       → (writeSecondAnswer (filledEarlier P) R ≡ refusal 8 (roomEarlier P)) × (writeSecondLeaves (filledEarlier P) R ≡ filledEarlier P)
   -- read second reads R back from that outcome alone
-  pub read-back : (P R out : List ℕ) → FirstRound P → Fits fillCode R P → length R ≤ length out
+  pub read-back : (P R out : List ℕ) → FirstRoundOf page256 P → FitsOf fillCode page256 R P → length R ≤ length out
       → (readSecondAnswer (outcomeEarlier P R) out ≡ result (length R)) × (readSecondLeaves (outcomeEarlier P R) out ≡ R ++ drop (length R) out)
   -- ... which is also what filling some first-round page and writing R over it leaves now
-  pub twice-written-by-now : (P R : List ℕ) → FirstRound P → Fits fillCode R P
-      → (Q : List ℕ) × FirstRound Q × Fits fillCode R Q × (writeSecondLeaves (fillPageLeaves Q) R ≡ outcomeEarlier P R)
+  pub twice-written-by-now : (P R : List ℕ) → FirstRoundOf page256 P → FitsOf fillCode page256 R P
+      → (Q : List ℕ) × FirstRoundOf page256 Q × FitsOf fillCode page256 R Q × (writeSecondLeaves (fillPageLeaves Q) R ≡ outcomeEarlier P R)

@@ -7,24 +7,25 @@ use Prim.Native.Nat.{ℕ, _*_, _≤_}
 use lib.ListN.{length}
 use Rattle.cells.specs.Bytes.{Bytes}
 use Rattle.answer.specs.Answer.{refusal}
+use Rattle.rows.specs.Page.{page256, FirstRoundOf}
+use Rattle.rows.specs.Code.{FitsOf, roomFor}
 use Rattle.inspect.specs.Rows.{inspectCode}
 use Rattle.inspect.specs.Answer.{writeInspectAnswer}
-use Rattle.demands.specs.Demands.{FirstRound, Fits, room}
 
 -- "the number of record bits that all the words' walks take"
 abbrev pub taken : List ℕ → List ℕ → ℕ
-taken P R = room inspectCode P R
+taken P R = roomFor inspectCode page256 P R
 
 pub record InspectFigures : Type 0 where
   -- "under this one a record fits when the words' walks take all its bits": not one more than it has
-  pub all-taken : (P R : List ℕ) → FirstRound P → Fits inspectCode R P → taken P R ≡ 8 * length R
+  pub all-taken : (P R : List ℕ) → FirstRoundOf page256 P → FitsOf inspectCode page256 R P → taken P R ≡ 8 * length R
   -- 1,012 to 1,980 bits of a record that is long enough, both met
-  pub least : (P R : List ℕ) → FirstRound P → 1012 ≤ 8 * length R → 1012 ≤ taken P R
-  pub greatest : (P R : List ℕ) → FirstRound P → taken P R ≤ 1980
+  pub least : (P R : List ℕ) → FirstRoundOf page256 P → 1012 ≤ 8 * length R → 1012 ≤ taken P R
+  pub greatest : (P R : List ℕ) → FirstRoundOf page256 P → taken P R ≤ 1980
   -- "so 126 bytes always go in", and 127 do not always
-  pub always : (P R : List ℕ) → FirstRound P → Bytes R → length R ≤ 126 → Fits inspectCode R P
-  pub not-always : (P R : List ℕ) × FirstRound P × Bytes R × (length R ≡ 127) × (writeInspectAnswer P R ≡ refusal 8 1012)
+  pub always : (P R : List ℕ) → FirstRoundOf page256 P → Bytes R → length R ≤ 126 → FitsOf inspectCode page256 R P
+  pub not-always : (P R : List ℕ) × FirstRoundOf page256 P × Bytes R × (length R ≡ 127) × (writeInspectAnswer P R ≡ refusal 8 1012)
   -- "byte 1 holds 0 to 247": some page takes 247 bytes, and none takes 248
-  pub longest-met : (P R : List ℕ) × FirstRound P × Fits inspectCode R P × (length R ≡ 247)
-  pub longest : (P R : List ℕ) → FirstRound P → Fits inspectCode R P → length R ≤ 247
-  pub greatest-met : (P R : List ℕ) × FirstRound P × Bytes R × (length R ≡ 248) × (writeInspectAnswer P R ≡ refusal 8 1980)
+  pub longest-met : (P R : List ℕ) × FirstRoundOf page256 P × FitsOf inspectCode page256 R P × (length R ≡ 247)
+  pub longest : (P R : List ℕ) → FirstRoundOf page256 P → FitsOf inspectCode page256 R P → length R ≤ 247
+  pub greatest-met : (P R : List ℕ) × FirstRoundOf page256 P × Bytes R × (length R ≡ 248) × (writeInspectAnswer P R ≡ refusal 8 1980)

@@ -11,29 +11,32 @@ use Rattle.cells.specs.Cells.{bit}
 use Rattle.cells.specs.Bytes.{bits, Bytes}
 use Rattle.window.specs.Words.{wordAt, pageWords}
 use Rattle.word.specs.Fill.{fill, put}
-use Rattle.rows.specs.Page.{state, stateFilled, byte1, byte2, capacityAll}
-use Rattle.rows.specs.Code.{fillCode}
+use Rattle.rows.specs.declared.shape.Shape.{Shape}
+use Rattle.rows.specs.Page.{page256, state, stateFilled, byte1, byte2, capacityAll, FirstRoundOf}
+use Rattle.rows.specs.Code.{fillCode, FitsOf, outcomeOf}
 use Rattle.page.specs.Answer.{writeFirstLeaves}
 use Rattle.filled.specs.Answer.{fillPageLeaves}
 use Rattle.second.specs.Answer.{writeSecondLeaves}
 use Rattle.walk.specs.Walk.{walked}
 use Rattle.inspect.specs.Rows.{takenAll, inspectCode}
 use Rattle.inspect.specs.Answer.{writeInspectLeaves}
-use Rattle.demands.specs.Demands.{FirstRound, Fits, outcome}
+use Rattle.demands.specs.Demands.{Known}
 
--- Of every first-round page P, and every record R that fits it; `WritingOf.header` of specs/Demands.antt has the outcome's header:
+-- Of every first-round page P of a shape s, and every record R that fits it; `WritingOf.header` and `.outcome-tail` of specs/Demands.antt have the
+-- outcome's header and the bytes after its words:
 pub record OutcomeByWords : Type 0 where
   -- "Filling turns a first-round page into state 03 (hexadecimal) with bytes 1 and 2 at 0": each word is that word filled
-  pub filled-header : (P : List ℕ) → FirstRound P
+  pub filled-header : (s : Shape) → Known s → (P : List ℕ) → FirstRoundOf s P
       → (state (fillPageLeaves P) ≡ stateFilled) × (byte1 (fillPageLeaves P) ≡ 0) × (byte2 (fillPageLeaves P) ≡ 0)
-  pub filled-word : (P : List ℕ) → FirstRound P → (i : ℕ) → i < 44 → wordAt (fillPageLeaves P) i ≡ fill (wordAt P i)
+  pub filled-word : (s : Shape) → Known s → (P : List ℕ) → FirstRoundOf s P → (i : ℕ) → i < s .words
+      → wordAt (fillPageLeaves P) i ≡ fill (wordAt P i)
   -- "Second bits go into the data cells, word 0 first, lower cells first": word i takes the record's bits after those that the words before
   -- it have room for
-  pub outcome-word : (P R : List ℕ) → FirstRound P → Fits fillCode R P → (i : ℕ) → i < 44
-      → wordAt (outcome fillCode P R) i ≡ put (fill (wordAt P i)) (drop (capacityAll (pageWords P i)) (bits R))
+  pub outcome-word : (s : Shape) → Known s → (P R : List ℕ) → FirstRoundOf s P → FitsOf fillCode s R P → (i : ℕ) → i < s .words
+      → wordAt (outcomeOf fillCode s P R) i ≡ put (fill (wordAt P i)) (drop (capacityAll (pageWords P i)) (bits R))
   -- "Each word is walked from cell 0": word i with the record's bits after those that the walks of the words before it take
-  pub inspect-word : (P R : List ℕ) → FirstRound P → Fits inspectCode R P → (i : ℕ) → i < 44
-      → wordAt (outcome inspectCode P R) i ≡ walked (wordAt P i) (drop (takenAll (pageWords P i) (bits R)) (bits R))
+  pub inspect-word : (P R : List ℕ) → FirstRoundOf page256 P → FitsOf inspectCode page256 R P → (i : ℕ) → i < 44
+      → wordAt (outcomeOf inspectCode page256 P R) i ≡ walked (wordAt P i) (drop (takenAll (pageWords P i) (bits R)) (bits R))
 
 -- a bit that is set in a byte of P is set in that byte of Q
 abbrev pub Keeps : List ℕ → List ℕ → Type 0

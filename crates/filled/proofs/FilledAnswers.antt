@@ -14,8 +14,9 @@ use Rattle.answer.proofs.Tells.{nothing-left}
 use Rattle.window.specs.Words.{pageWords}
 use Rattle.word.specs.Word.{legal}
 use Rattle.word.specs.Fill.{isFilled}
-use Rattle.rows.specs.Page.{Shape, state, stateFirst, stateFilled, byte1, byte2, FirstRoundOf, FilledOf}
-use Rattle.page.specs.Terms.{SizedOf, HeaderOf, LowestBad, RefusalsOf}
+use Rattle.rows.specs.declared.shape.Shape.{Shape}
+use Rattle.rows.specs.Page.{state, stateFirst, stateFilled, byte1, FirstRoundOf, FilledOf}
+use Rattle.page.specs.Terms.{SizedOf, HeaderOf, RestSetOf, LowestBad, RefusalsOf}
 use Rattle.page.specs.Answer.{firstChecks}
 use Rattle.page.proofs.Headed.{state-refusals, state-taken}
 use Rattle.page.proofs.FirstAnswers.{check-refusals, check-taken}
@@ -76,7 +77,7 @@ module _ (s : Shape) (P : List ℕ) where
       let r = check-refusals s P _ .five i in
       (λ h. let q = r .0 (sym (as-first n) ∙ h) in (q .0, q .1, n, q .2), λ h. as-first n ∙ r .1 (h .0, h .1, h .3)))
 
-  pub capacity-6 : (i : ℕ) → Refused 6 i ↔ (SizedOf s P × ((state P ≡ 1) ⊎ (state P ≡ 3)) × (¬ (byte1 P ≡ 0) ⊎ ¬ (byte2 P ≡ 0)) × (i ≡ 0))
+  pub capacity-6 : (i : ℕ) → Refused 6 i ↔ (SizedOf s P × ((state P ≡ 1) ⊎ (state P ≡ 3)) × (¬ (byte1 P ≡ 0) ⊎ RestSetOf s P) × (i ≡ 0))
   capacity-6 i = by-state
       (λ e.
       let r = check-filled-refusals _ .six i in

@@ -1,7 +1,7 @@
 -- What filling a page and measuring one answer, and what they leave in the page (document 02, Changes 2 and 3), and the papers' number and
--- values for each case of their enums. The checks are over a shape of page.
+-- values for each case of their enums. The checks are over a shape of page; what an operation answers goes by the page's own.
 -- Assumes nothing.
-use mathlib.Core.Bool.{cond, not, _&&_, _||_}
+use mathlib.Core.Bool.{cond, not, _&&_}
 use mathlib.Core.List.{List, [], _∷_}
 use Prim.Native.Nat.{ℕ}
 use lib.Dec.{eqb}
@@ -10,7 +10,8 @@ use Rattle.answer.specs.Answer.{Answer, result, refusal, Check, refuse, answer,
 use Rattle.window.specs.Words.{pageWords}
 use Rattle.word.specs.Word.{legal}
 use Rattle.word.specs.Fill.{isFilled}
-use Rattle.rows.specs.Page.{Shape, page256, state, stateFirst, stateFilled, byte1, byte2, pulsesAll, capacityAll, filledPage, secondBitsOf}
+use Rattle.rows.specs.declared.shape.Shape.{Shape}
+use Rattle.rows.specs.Page.{shapeOf, state, stateFirst, stateFilled, badHeader, pulsesAll, capacityAll, filledPage, secondBitsOf}
 use Rattle.page.specs.Answer.{refuseWord, stateChecks, firstChecks}
 use Rattle.filled.specs.declared.PageFilled.{PageFilled}
 use Rattle.filled.specs.declared.PageFilled.the-variants as pageFilled
@@ -27,11 +28,11 @@ pulsesOf s page = pulsesAll (pageWords page (s .words))
 
 -- "Filling refuses 1, 5, 6, 7 as read first does"; it "returns the sum over its words"
 abbrev pub fillPageAnswer : List ℕ → Answer
-fillPageAnswer page = answer (firstChecks page256 page) (pulsesOf page256 page)
+fillPageAnswer page = answer (firstChecks (shapeOf page) page) (pulsesOf (shapeOf page) page)
 
 -- "Filling turns a first-round page into state 03 (hexadecimal) with bytes 1 and 2 at 0."
 abbrev pub fillPageLeaves : List ℕ → List ℕ
-fillPageLeaves page = after (fillPageAnswer page) page (filledPage page256 page)
+fillPageLeaves page = after (fillPageAnswer page) page (filledPage (shapeOf page) page)
 
 -- ---- a filled page
 
@@ -53,7 +54,7 @@ unfoldable pub capacityChecks : Shape → List ℕ → List Check
 capacityChecks s page =
     refuse (not (eqb (length page) (s .size))) 1 0
     ∷ refuse (not (eqb (state page) stateFirst) && not (eqb (state page) stateFilled)) 5 0
-    ∷ refuse (not (eqb (byte1 page) 0) || not (eqb (byte2 page) 0)) 6 0
+    ∷ refuse (badHeader 0 (s .words) page) 6 0
     ∷ refuseWord (cond (eqb (state page) stateFilled) isFilled legal) (pageWords page (s .words))
     ∷ []
 
@@ -61,7 +62,7 @@ unfoldable pub roomOf : Shape → List ℕ → ℕ
 roomOf s page = cond (eqb (state page) stateFilled) (roomFilled s page) (roomFirst s page)
 
 abbrev pub pageCapacityAnswer : List ℕ → Answer
-pageCapacityAnswer page = answer (capacityChecks page256 page) (roomOf page256 page)
+pageCapacityAnswer page = answer (capacityChecks (shapeOf page) page) (roomOf (shapeOf page) page)
 
 -- ---- the papers' number and values for each case of an enum
 

@@ -1,5 +1,5 @@
-// One page of 256 bytes and 44 words, filled ahead of a second record: the fill of a first-round page, and the capacity of a page before and
-// after it.
+// One page, of 256 bytes and 44 words or of 512 and 88, filled ahead of a second record: the fill of a first-round page, and the capacity of a
+// page before and after it.
 //
 // Each operation takes byte slices of every length and has no `requires`. It answers by an enum of its own: a value case, and a case for
 // each refusal. The first refusal that applies, in the documents' order, is given, and a refusal writes no byte.
@@ -11,10 +11,13 @@ use page::check::FirstCheck;
 use page::check::check_first;
 use rows::STATE_FILLED;
 use rows::filling;
+use rows::shape::Shape;
+use rows::shape::shape_of;
 use rows::words::capacity_of;
 ghost use mathlib.Core.Path.{_≡_};
+ghost use Prim.Native.Nat.{_*_, _^_, _≤_, _<_};
 ghost use Rattle.answer.specs.Answer.{answer};
-ghost use Rattle.rows.specs.Page.{page256};
+ghost use Rattle.window.specs.Words.{start};
 ghost use Rattle.page.specs.Answer.{firstChecks};
 ghost use Rattle.filled.specs.Answer.{filledChecks, roomFirst, roomFilled, fillPageAnswer, fillPageLeaves, pageCapacityAnswer, pageFilledCode, measuredCode};
 
@@ -41,11 +44,12 @@ pub fn fill_page(page: &mut [u8]) -> PageFilled
     ensures answer { λ r. ⌜ pageFilledCode r ≡ fillPageAnswer (now (page .entry)) ⌝ }
     ensures bytes { λ _. ⌜ now (page .exit) ≡ fillPageLeaves (now (page .entry)) ⌝ }
 {
-    let c = check_first(page, 256, 44);
+    let s = shape_of(page.len());
+    let c = check_first(page, s);
     match c {
         FirstCheck::Passed => {
             page[0] = STATE_FILLED;
-            PageFilled::Pulses(filling::fill_words(page, 44))
+            PageFilled::Pulses(filling::fill_words(page, s.words))
         }
         FirstCheck::PageLength => PageFilled::PageLength,
         FirstCheck::State => PageFilled::State,
@@ -55,12 +59,13 @@ pub fn fill_page(page: &mut [u8]) -> PageFilled
 }
 
 // The capacity of a page that is not in state 03: that of a first-round page.
-fn first_capacity(page: &[u8]) -> Measured
-    ensures { λ r. ⌜ measuredCode r ≡ answer (firstChecks page256 (now (page .entry))) (roomFirst page256 (now (page .entry))) ⌝ }
+fn first_capacity(page: &[u8], s: Shape) -> Measured
+    requires { ⌜ (start (s .words) ≤ 8 * s .size) × (s .words < 2 ^ 16) ⌝ }
+    ensures { λ r. ⌜ measuredCode r ≡ answer (firstChecks s (now (page .entry))) (roomFirst s (now (page .entry))) ⌝ }
 {
-    let c = check_first(page, 256, 44);
+    let c = check_first(page, s);
     match c {
-        FirstCheck::Passed => Measured::Capacity(capacity_of(page, 44)),
+        FirstCheck::Passed => Measured::Capacity(capacity_of(page, s.words)),
         FirstCheck::PageLength => Measured::PageLength,
         FirstCheck::State => Measured::State,
         FirstCheck::Header => Measured::Header,
@@ -69,10 +74,11 @@ fn first_capacity(page: &[u8]) -> Measured
 }
 
 // The capacity of a page in state 03: that of a filled page, with no second fill.
-fn filled_capacity(page: &[u8]) -> Measured
-    ensures { λ r. ⌜ measuredCode r ≡ answer (filledChecks page256 (now (page .entry))) (roomFilled page256 (now (page .entry))) ⌝ }
+fn filled_capacity(page: &[u8], s: Shape) -> Measured
+    requires { ⌜ (start (s .words) ≤ 8 * s .size) × (s .words < 2 ^ 16) ⌝ }
+    ensures { λ r. ⌜ measuredCode r ≡ answer (filledChecks s (now (page .entry))) (roomFilled s (now (page .entry))) ⌝ }
 {
-    let c = check_filled(page, 256, 44);
+    let c = check_filled(page, s);
     match c {
         FilledCheck::Passed(room) => Measured::Capacity(room),
         FilledCheck::PageLength => Measured::PageLength,
@@ -86,11 +92,12 @@ fn filled_capacity(page: &[u8]) -> Measured
 pub fn capacity(page: &[u8]) -> Measured
     ensures { λ r. ⌜ measuredCode r ≡ pageCapacityAnswer (now (page .entry)) ⌝ }
 {
-    if page.len() != 256 {
+    let s = shape_of(page.len());
+    if page.len() != s.size {
         return Measured::PageLength;
     }
     if page[0] == STATE_FILLED {
-        return filled_capacity(page);
+        return filled_capacity(page, s);
     }
-    first_capacity(page)
+    first_capacity(page, s)
 }

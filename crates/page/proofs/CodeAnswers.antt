@@ -1,23 +1,25 @@
 -- Just when the writer and the reader of a code accept, and when they refuse by each number, over any code and any shape of page. No law of the
 -- code is asked for, but that the words which 7 judges are as many as the page has.
 -- Assumes nothing.
-use mathlib.Core.Bool.{Bool, false, not, _||_}
+use mathlib.Core.Bool.{Bool, false, _||_}
 use mathlib.Core.List.{List}
 use mathlib.Core.Logic.{_↔_, _⊎_, Iff·trans}
 use mathlib.Core.Path.{_≡_, refl, _∙_}
 use Prim.Native.Nat.{ℕ, _*_, _≤_, _<_}
 use native.Mathlib.Omega.{arith}
-use lib.Dec.{T, eqb, ltb}
+use lib.Dec.{T, ltb}
 use lib.ListN.{length}
-use Rattle.cells.specs.Bytes.{Bytes}
+use Rattle.cells.specs.Bytes.{Bytes, zeros}
 use Rattle.answer.specs.Answer.{result, refusal, answer, numbers, among}
 use Rattle.answer.proofs.Chains.{still-refused}
-use Rattle.answer.proofs.Tells.{Tells, unequal, less, itself, either, just, later, taken, nothing-left, flat3}
+use Rattle.answer.proofs.Tells.{Tells, less, itself, either, just, later, taken, nothing-left, flat3}
 use Rattle.window.specs.Words.{pageWords}
 use Rattle.window.proofs.Words.{length-pageWords}
-use Rattle.rows.specs.Page.{Shape, state, byte2, recordLength}
+use Rattle.rows.specs.declared.shape.Shape.{Shape}
+use Rattle.rows.specs.Page.{state, byte2, tail, recordLength, badHeader}
 use Rattle.rows.specs.Code.{Code, longest, roomFor, foundOf, judgedOf, spareOf, ReadyOf, AllJudgedOf, SecondRoundOf}
-use Rattle.page.specs.Terms.{SizedOf, RecordHeaderOf, LowestBad, RefusalsOf}
+use Rattle.rows.proofs.Headers.{header-tells}
+use Rattle.page.specs.Terms.{SizedOf, RecordHeaderOf, RestSetOf, LowestBad, RefusalsOf}
 use Rattle.page.specs.Answer.{stateChecks, writeChecks, recordChecks, readChecks}
 use Rattle.page.proofs.Headed.{AllPass, headed-1, headed-5, headed-6, headed-later, headed-taken, word-7, word-later, word-taken, state-refusals, state-later, state-taken}
 
@@ -64,8 +66,9 @@ module _ (c : Code) (same : (n : ℕ) (ws : List (List Bool)) → length (c .jud
   pub length-judged : length judged ≡ s .words
   length-judged = same (8 * n) (pageWords P (s .words)) ∙ length-pageWords P (s .words)
 
-  header : Tells (ltb (longest c s) n || not (eqb (byte2 P) 0)) ((longest c s < n) ⊎ ¬ (byte2 P ≡ 0)) ((n ≤ longest c s) × (byte2 P ≡ 0))
-  header = either (less (longest c s) n) (unequal (byte2 P) 0)
+  header : Tells (badHeader (longest c s) (s .words) P) ((longest c s < n) ⊎ RestSetOf s P)
+      ((n ≤ longest c s) × ((byte2 P ≡ 0) × T (zeros (tail (s .words) P))))
+  header = header-tells (s .words) P (longest c s)
 
   too-few : Tells (ltb (length found) (8 * n) || spareOf c s P) ((length found < 8 * n) ⊎ T (spareOf c s P))
       ((8 * n ≤ length found) × (spareOf c s P ≡ false))
@@ -88,6 +91,7 @@ module _ (c : Code) (same : (n : ℕ) (ws : List (List Bool)) → length (c .jud
         in-state = h .0 .1;
         length-most = h .0 .2;
         byte2-zero = h .0 .3;
+        tail-zero = h .0 .4;
         words-pass = all-judged .0 (h .1 .0);
         bits-enough = h .1 .1 .0 .0;
         spare-zero = h .1 .1 .0 .1;
@@ -96,7 +100,7 @@ module _ (c : Code) (same : (n : ℕ) (ws : List (List Bool)) → length (c .jud
     ),
     λ h.
         let f = h .0 in
-        ((f .sized, f .in-state, f .length-most, f .byte2-zero), (all-judged .1 (f .words-pass), ((f .bits-enough, f .spare-zero), h .1))),
+        ((f .sized, f .in-state, f .length-most, f .byte2-zero, f .tail-zero), (all-judged .1 (f .words-pass), ((f .bits-enough, f .spare-zero), h .1))),
   )
 
   pub read-taken : (v : ℕ) → Bytes P → (answer (readChecks c s P out) n ≡ result v) ↔ (SecondRoundOf c s P × (n ≤ length out) × (v ≡ n))
@@ -115,7 +119,7 @@ module _ (c : Code) (same : (n : ℕ) (ws : List (List Bool)) → length (c .jud
   read-5 = headed-5 s P (c .into) header _ n refl
 
   pub read-6 : (i : ℕ) → (answer {A = ℕ} (readChecks c s P out) n ≡ refusal 6 i)
-      ↔ (SizedOf s P × (state P ≡ c .into) × ((longest c s < n) ⊎ ¬ (byte2 P ≡ 0)) × (i ≡ 0))
+      ↔ (SizedOf s P × (state P ≡ c .into) × ((longest c s < n) ⊎ RestSetOf s P) × (i ≡ 0))
   unfolding readChecks recordChecks numbers among
   read-6 = headed-6 s P (c .into) header _ n refl
 

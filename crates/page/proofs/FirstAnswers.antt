@@ -12,7 +12,8 @@ use Rattle.cells.specs.Bytes.{Bytes}
 use Rattle.answer.specs.Answer.{result, refusal, answer, numbers, among}
 use Rattle.answer.proofs.Tells.{Tells, unequal, less, just, later, taken, nothing-left, flat3}
 use Rattle.word.specs.Word.{legal}
-use Rattle.rows.specs.Page.{Shape, stateFirst, blankOf, FirstRoundOf}
+use Rattle.rows.specs.declared.shape.Shape.{Shape}
+use Rattle.rows.specs.Page.{stateFirst, blankOf, FirstRoundOf}
 use Rattle.rows.proofs.Blank.{length-blank, not-blank}
 use Rattle.page.specs.Terms.{SizedOf, RefusalsOf}
 use Rattle.page.specs.Answer.{writeFirstChecks, firstChecks, readFirstChecks}
@@ -21,10 +22,10 @@ use Rattle.page.proofs.Headed.{not-sized, state-refusals, state-later, 
 -- ---- write first
 
 module _ (s : Shape) (P D : List ℕ) where
-  other-length : Tells (not (eqb (length D) (s .firstBytes))) (¬ (length D ≡ s .firstBytes)) (length D ≡ s .firstBytes)
-  other-length = unequal (length D) (s .firstBytes)
+  other-length : Tells (not (eqb (length D) (s .first))) (¬ (length D ≡ s .first)) (length D ≡ s .first)
+  other-length = unequal (length D) (s .first)
 
-  pub write-first : (v : ℕ) → (answer (writeFirstChecks s P D) 0 ≡ result v) ↔ ((P ≡ blankOf (s .size)) × (length D ≡ s .firstBytes) × (v ≡ 0))
+  pub write-first : (v : ℕ) → (answer (writeFirstChecks s P D) 0 ≡ result v) ↔ ((P ≡ blankOf (s .size)) × (length D ≡ s .first) × (v ≡ 0))
   unfolding writeFirstChecks
   write-first v =
       Iff·trans
@@ -37,12 +38,12 @@ module _ (s : Shape) (P D : List ℕ) where
   unfolding writeFirstChecks numbers among
   write-first-1 i = just (not-sized s P) 1 0 _ 0 refl i
 
-  pub write-first-2 : (i : ℕ) → (answer {A = ℕ} (writeFirstChecks s P D) 0 ≡ refusal 2 i) ↔ (SizedOf s P × ¬ (length D ≡ s .firstBytes) × (i ≡ 0))
+  pub write-first-2 : (i : ℕ) → (answer {A = ℕ} (writeFirstChecks s P D) 0 ≡ refusal 2 i) ↔ (SizedOf s P × ¬ (length D ≡ s .first) × (i ≡ 0))
   unfolding writeFirstChecks numbers among
   write-first-2 i = Iff·trans (later (not-sized s P) 1 0 _ 0 2 i (λ e. omega arith) (just other-length 2 0 _ 0 refl i)) flat3
 
   pub write-first-4 : (i : ℕ) → (answer {A = ℕ} (writeFirstChecks s P D) 0 ≡ refusal 4 i)
-      ↔ (SizedOf s P × (length D ≡ s .firstBytes) × ¬ (P ≡ blankOf (s .size)) × (i ≡ 0))
+      ↔ (SizedOf s P × (length D ≡ s .first) × ¬ (P ≡ blankOf (s .size)) × (i ≡ 0))
   unfolding writeFirstChecks numbers among
   write-first-4 i =
       Iff·trans
@@ -66,14 +67,14 @@ module _ (s : Shape) (P : List ℕ) where
   -- ---- read first
 
   module _ (out : List ℕ) where
-    pub read-first : (v : ℕ) → Bytes P → (answer (readFirstChecks s P out) 0 ≡ result v) ↔ (FirstRoundOf s P × (s .firstBytes ≤ length out) × (v ≡ 0))
+    pub read-first : (v : ℕ) → Bytes P → (answer (readFirstChecks s P out) 0 ≡ result v) ↔ (FirstRoundOf s P × (s .first ≤ length out) × (v ≡ 0))
     unfolding readFirstChecks firstChecks
-    read-first v b = Iff·trans (state-taken stateFirst legal s P _ 0 v b (taken (less (length out) (s .firstBytes)) 3 0 _ 0 v (nothing-left 0 v))) flat3
+    read-first v b = Iff·trans (state-taken stateFirst legal s P _ 0 v b (taken (less (length out) (s .first)) 3 0 _ 0 v (nothing-left 0 v))) flat3
 
     pub read-first-1567 : RefusalsOf stateFirst legal s P (answer (readFirstChecks s P out) 0)
     unfolding readFirstChecks firstChecks numbers among
     read-first-1567 = state-refusals stateFirst legal s P _ 0 (refl, refl, refl, refl)
 
-    pub read-first-3 : (i : ℕ) → Bytes P → (answer {A = ℕ} (readFirstChecks s P out) 0 ≡ refusal 3 i) ↔ (FirstRoundOf s P × (length out < s .firstBytes) × (i ≡ 0))
+    pub read-first-3 : (i : ℕ) → Bytes P → (answer {A = ℕ} (readFirstChecks s P out) 0 ≡ refusal 3 i) ↔ (FirstRoundOf s P × (length out < s .first) × (i ≡ 0))
     unfolding readFirstChecks firstChecks numbers among
-    read-first-3 i b = Iff·trans (state-later stateFirst legal s P _ 0 3 i b (omega arith) (just (less (length out) (s .firstBytes)) 3 0 _ 0 refl i)) flat3
+    read-first-3 i b = Iff·trans (state-later stateFirst legal s P _ 0 3 i b (omega arith) (just (less (length out) (s .first)) 3 0 _ 0 refl i)) flat3

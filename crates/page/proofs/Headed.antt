@@ -1,8 +1,8 @@
 -- The checks that the rounds share, before others: of the length, the state and the header, and of the words of a row.
 -- Assumes nothing.
-use mathlib.Core.Bool.{Bool, false, not, _||_}
+use mathlib.Core.Bool.{Bool, false, not}
 use mathlib.Core.List.{List, [], _∷_, _++_}
-use mathlib.Core.Logic.{_↔_, _⊎_, Iff·trans}
+use mathlib.Core.Logic.{_↔_, Iff·trans}
 use mathlib.Core.Path.{_≡_, sym, ap, _∙_, subst}
 use Prim.Native.Nat.{ℕ, suc, _≤_, _<_}
 use native.Mathlib.Nat.{lt-of-not-le}
@@ -12,10 +12,12 @@ use lib.Dec.{T, eqb, ltb}
 use lib.ListN.{length, getD}
 use Rattle.cells.specs.Bytes.{Bytes}
 use Rattle.answer.specs.Answer.{result, refusal, Check, refuse, answer, numbers, among}
-use Rattle.answer.proofs.Tells.{Tells, unequal, either, just, later, taken, flat3, flat4}
+use Rattle.answer.proofs.Tells.{Tells, unequal, just, later, taken, flat3, flat4}
 use Rattle.window.specs.Words.{pageWords}
 use Rattle.window.proofs.Words.{length-pageWords, getD-pageWords}
-use Rattle.rows.specs.Page.{Shape, state, byte1, byte2, lowest, OpenOf}
+use Rattle.rows.specs.declared.shape.Shape.{Shape}
+use Rattle.rows.specs.Page.{state, lowest, OpenOf}
+use Rattle.rows.proofs.Headers.{empty-tells}
 use Rattle.rows.proofs.Lowest.{lowest-le, lowest-all, passed-before, failed-there}
 use Rattle.rows.proofs.Scanning.{Passed, scan-passed, all-passed}
 use Rattle.page.specs.Terms.{SizedOf, HeaderOf, LowestBad, RefusalsOf}
@@ -27,13 +29,13 @@ pub not-sized : (s : Shape) (P : List ℕ) → Tells (not (eqb (length P) (s .si
 not-sized s P = unequal (length P) (s .size)
 
 -- the conditions of these three, then another
-headed-parts : {A B C D X : Type 0} → (A × (B × ((C × D) × X))) ↔ ((A × B × C × D) × X)
+headed-parts : {A B C D E X : Type 0} → (A × (B × ((C × (D × E)) × X))) ↔ ((A × B × C × D × E) × X)
 headed-parts = (
-  λ h. ((h .0, h .1 .0, h .1 .1 .0 .0, h .1 .1 .0 .1), h .1 .1 .1),
-  λ h. (h .0 .0, (h .0 .1, ((h .0 .2, h .0 .3), h .1))),
+  λ h. ((h .0, h .1 .0, h .1 .1 .0 .0, h .1 .1 .0 .1 .0, h .1 .1 .0 .1 .1), h .1 .1 .1),
+  λ h. (h .0 .0, (h .0 .1, ((h .0 .2, (h .0 .3, h .0 .4)), h .1))),
 )
 
-module _ (s : Shape) (P : List ℕ) (k : ℕ) {r : Bool} {E F G : Type 0} (u : Tells r E (F × G)) (cs : List Check) (x : ℕ) where
+module _ (s : Shape) (P : List ℕ) (k : ℕ) {r : Bool} {E F G H : Type 0} (u : Tells r E (F × (G × H))) (cs : List Check) (x : ℕ) where
   other-state : Tells (not (eqb (state P) k)) (¬ (state P ≡ k)) (state P ≡ k)
   other-state = unequal (state P) k
 
@@ -58,14 +60,14 @@ module _ (s : Shape) (P : List ℕ) (k : ℕ) {r : Bool} {E F G : Type 0} (u : T
 
   -- a later number, and a result
   pub headed-later : {X : Type 0} (n i : ℕ) → ¬ (1 ≡ n) × ¬ (5 ≡ n) × ¬ (6 ≡ n) → (answer cs x ≡ refusal n i) ↔ X
-      → (answer headed x ≡ refusal n i) ↔ ((SizedOf s P × (state P ≡ k) × F × G) × X)
+      → (answer headed x ≡ refusal n i) ↔ ((SizedOf s P × (state P ≡ k) × F × G × H) × X)
   headed-later n i d e =
       Iff·trans
       (later (not-sized s P) 1 0 _ x n i (d .0) (later other-state 5 0 _ x n i (d .1) (later u 6 0 _ x n i (d .2) e)))
       headed-parts
 
   pub headed-taken : {X : Type 0} (v : ℕ) → (answer cs x ≡ result v) ↔ X
-      → (answer headed x ≡ result v) ↔ ((SizedOf s P × (state P ≡ k) × F × G) × X)
+      → (answer headed x ≡ result v) ↔ ((SizedOf s P × (state P ≡ k) × F × G × H) × X)
   headed-taken v e =
       Iff·trans
       (taken (not-sized s P) 1 0 _ x v (taken other-state 5 0 _ x v (taken u 6 0 _ x v e)))
@@ -129,18 +131,15 @@ module _ (s : Shape) (test : List Bool → Bool) (P : List ℕ) where
 -- ---- all four, of a page in state k without a second record, then other checks
 
 module _ (k : ℕ) (test : List Bool → Bool) (s : Shape) (P : List ℕ) (cs : List Check) (x : ℕ) where
-  header : Tells (not (eqb (byte1 P) 0) || not (eqb (byte2 P) 0)) (¬ (byte1 P ≡ 0) ⊎ ¬ (byte2 P ≡ 0)) ((byte1 P ≡ 0) × (byte2 P ≡ 0))
-  header = either (unequal (byte1 P) 0) (unequal (byte2 P) 0)
-
   -- the refusals that the operations on one state share
   pub state-refusals : (among 1 (numbers cs) ≡ false) × (among 5 (numbers cs) ≡ false) × (among 6 (numbers cs) ≡ false) × (among 7 (numbers cs) ≡ false)
       → RefusalsOf k test s P (answer (stateChecks k test s P ++ cs) x)
   unfolding numbers among
   state-refusals f = record {
-    one = headed-1 s P k header _ x (f .0);
-    five = headed-5 s P k header _ x (f .1);
-    six = headed-6 s P k header _ x (f .2);
-    seven = λ i. headed-later s P k header _ x 7 i (omega arith) (word-7 test (words s test P) cs x (f .3) i);
+    one = headed-1 s P k (empty-tells (s .words) P) _ x (f .0);
+    five = headed-5 s P k (empty-tells (s .words) P) _ x (f .1);
+    six = headed-6 s P k (empty-tells (s .words) P) _ x (f .2);
+    seven = λ i. headed-later s P k (empty-tells (s .words) P) _ x 7 i (omega arith) (word-7 test (words s test P) cs x (f .3) i);
   }
 
   -- its length, header and words together
@@ -155,13 +154,14 @@ module _ (k : ℕ) (test : List Bool → Bool) (s : Shape) (P : List ℕ) (cs : 
             in-state = h .0 .1;
             byte1-zero = h .0 .2;
             byte2-zero = h .0 .3;
+            tail-zero = h .0 .4;
             words-pass = λ i j. subst (λ (w : List Bool). T (test w)) (getD-pageWords P n i j) (h .1 .0 i (omega arith));
           },
           h .1 .1,
         ),
         λ h.
             let f = h .0 in (
-              (f .sized, f .in-state, f .byte1-zero, f .byte2-zero),
+              (f .sized, f .in-state, f .byte1-zero, f .byte2-zero, f .tail-zero),
               (
                 λ i j.
                     let q : i < n = omega arith in
@@ -175,8 +175,8 @@ module _ (k : ℕ) (test : List Bool → Bool) (s : Shape) (P : List ℕ) (cs : 
   pub state-later : {X : Type 0} (n i : ℕ) → Bytes P → ¬ (1 ≡ n) × ¬ (5 ≡ n) × ¬ (6 ≡ n) × ¬ (7 ≡ n) → (answer cs x ≡ refusal n i) ↔ X
       → (answer (stateChecks k test s P ++ cs) x ≡ refusal n i) ↔ (OpenOf k test s P × X)
   state-later n i b d e =
-      Iff·trans (headed-later s P k header _ x n i (d .0, d .1, d .2) (word-later test (words s test P) cs x n i (d .3) e)) (open-parts b)
+      Iff·trans (headed-later s P k (empty-tells (s .words) P) _ x n i (d .0, d .1, d .2) (word-later test (words s test P) cs x n i (d .3) e)) (open-parts b)
 
   pub state-taken : {X : Type 0} (v : ℕ) → Bytes P → (answer cs x ≡ result v) ↔ X
       → (answer (stateChecks k test s P ++ cs) x ≡ result v) ↔ (OpenOf k test s P × X)
-  state-taken v b e = Iff·trans (headed-taken s P k header _ x v (word-taken test (words s test P) cs x v e)) (open-parts b)
+  state-taken v b e = Iff·trans (headed-taken s P k (empty-tells (s .words) P) _ x v (word-taken test (words s test P) cs x v e)) (open-parts b)

@@ -3,7 +3,7 @@
 use mathlib.Core.Bool.{true}
 use mathlib.Core.List.{List, [], _∷_, _++_}
 use mathlib.Core.Logic.{_↔_, _⊎_, inl, inr, ⊎-elim}
-use mathlib.Core.Path.{_≡_, refl, sym, ap, _∙_}
+use mathlib.Core.Path.{_≡_, refl, sym, ap, _∙_, subst}
 use Prim.Native.Nat.{ℕ, suc, _≤_}
 use native.Mathlib.Omega.{arith}
 use borrow.Author.Tests.{le-ltb}
@@ -17,24 +17,26 @@ use Rattle.answer.proofs.Chains.{last-passed, same-refusal, among-others}
 use Rattle.window.specs.Words.{pageWords}
 use Rattle.word.specs.Word.{seriesFrom, weight, zeckendorf}
 use Rattle.word.specs.Fill.{setOrEnd, fillFrom, fill, readFrom, read, capacity}
-use Rattle.rows.specs.Page.{state, recordLength, blankOf, firstWords, firstPage, sumOver, capacityAll, page256}
-use Rattle.rows.specs.Code.{Code, fillCode, longest}
+use Rattle.rows.specs.declared.shape.Shape.{Shape}
+use Rattle.rows.specs.Page.{state, recordLength, blankOf, firstWords, firstPage, sumOver, capacityAll, page256, shapeOf, FirstRoundOf, FilledOf}
+use Rattle.rows.specs.Code.{Code, fillCode, longest, SecondRoundOf}
+use Rattle.rows.proofs.Shapes.{sound256}
+use Rattle.page.specs.Terms.{SizedOf}
 use Rattle.page.specs.Answer.{firstChecks, readFirstChecks, readFirstAnswer, readAnswer}
 use Rattle.filled.specs.Answer.{pageCapacityAnswer}
 use Rattle.filled.proofs.FilledAnswers.{as-first}
 use Rattle.second.specs.Answer.{readSecondAnswer}
 use Rattle.inspect.specs.Rows.{inspectCode}
 use Rattle.inspect.specs.Answer.{readInspectAnswer}
-use Rattle.demands.specs.Demands.{blank, Sized, FirstRound, Filled as FilledPage, SecondRound, dataCells, filledCells, ReaderOf}
+use Rattle.demands.specs.Demands.{dataCellsOf, filledCellsOf, ReaderOf}
 use Rattle.demands.proofs.Bounds.{capacity-is}
 use Rattle.demands.proofs.Demands.{demand1, demand3}
 use Rattle.demands.proofs.FirstPages.{first-written, words-written}
-use Rattle.demands.proofs.Laid.{sound256}
 use Rattle.report.specs.Kinds.{kindBy, kindOf}
 use Rattle.report.specs.Lines.{lineOf}
 use Rattle.report.specs.Listing.{piecesOf, linesFrom, listingOf}
-use Rattle.report.specs.Claims.{KindsExact, LinesRight, ListingRight}
-use Rattle.report.proofs.Deciding.{kind-not-sized, kind-00, kind-01, kind-03, kind-07, kind-09, kind-unknown, WhyBad, not-sized, not-blank, unknown, open-bad, second-bad, inspect-bad, blank-or-bad, kind-why, reader-fits, reader-among, bad-among}
+use Rattle.report.specs.Claims.{blank, Sized, FirstRound, FilledPage, SecondRound, dataCells, filledCells, KindsExact, LinesRight, ListingRight}
+use Rattle.report.proofs.Deciding.{kind-not-sized, kind-00, kind-01, kind-03, kind-07, kind-09, kind-unknown, WhyBad, not-sized, not-blank, unknown, open-bad, second-bad, inspect-bad, blank-or-bad, own, kind-why, reader-fits, reader-among, bad-among}
 use Rattle.report.proofs.Listings.{pieces-none, pieces-most, listing-page, listing-last, turns-listing}
 use Rattle.report.specs.declared.Kind.{Kind}
 use Rattle.report.specs.declared.Kind.the-variants.{Blank, First, Filled, Second, Bad}
@@ -50,13 +52,30 @@ pub blank-kind : kindOf blank ≡ Blank
 unfolding blankOf
 blank-kind = kind-00 blank blank-sized refl ∙ ⊎-elim (λ h. h .1) (λ h. absurd (h .0 refl)) (blank-or-bad blank)
 
+-- page capacity and read second hold a piece of 256 bytes to that page
+own-sized : (P : List ℕ) → Sized P → SizedOf (shapeOf P) P
+own-sized P z = rw (own P z) z
+
+own-capacity : (P : List ℕ) (c : ℕ) → Bytes P → Sized P
+    → (pageCapacityAnswer P ≡ result c) ↔ ((FirstRound P × (c ≡ dataCells P)) ⊎ (FilledPage P × (c ≡ filledCells P)))
+own-capacity P c b z =
+    subst
+    (λ (s : Shape). (pageCapacityAnswer P ≡ result c) ↔ ((FirstRoundOf s P × (c ≡ dataCellsOf s P)) ⊎ (FilledOf s P × (c ≡ filledCellsOf s P))))
+    (own P z) (demand1 .page-capacity P c b)
+
+own-second : (P out : List ℕ) (n : ℕ) → Bytes P → Sized P
+    → (readSecondAnswer P out ≡ result n) ↔ (SecondRound fillCode P × (n ≡ recordLength P) × (n ≤ length out))
+own-second P out n b z =
+    subst (λ (s : Shape). (readSecondAnswer P out ≡ result n) ↔ (SecondRoundOf fillCode s P × (n ≡ recordLength P) × (n ≤ length out)))
+    (own P z) (demand1 .read-second .accepted P out n b)
+
 -- `first` is what page capacity accepts
 first-page : (P : List ℕ) (c : ℕ) → Bytes P → (kindOf P ≡ First c) ↔ (FirstRound P × (c ≡ dataCells P))
 first-page P c b = (
   λ e.
       let w = kind-why P (First c) e in
-      ⊎-elim (λ h. h) (λ h. absurd (omega (arith, w .0, h .0 .in-state))) (demand1 .page-capacity P c b .0 (w .1)),
-  λ h. kind-01 P (h .0 .sized) (h .0 .in-state) ∙ ap (kindBy First) (demand1 .page-capacity P c b .1 (inl h)),
+      ⊎-elim (λ h. h) (λ h. absurd (omega (arith, w .1, h .0 .in-state))) (own-capacity P c b (w .0) .0 (w .2)),
+  λ h. kind-01 P (h .0 .sized) (h .0 .in-state) ∙ ap (kindBy First) (own-capacity P c b (h .0 .sized) .1 (inl h)),
 )
 
 -- and `filled` too
@@ -64,8 +83,8 @@ filled-page : (P : List ℕ) (c : ℕ) → Bytes P → (kindOf P ≡ Filled c) �
 filled-page P c b = (
   λ e.
       let w = kind-why P (Filled c) e in
-      ⊎-elim (λ h. absurd (omega (arith, w .0, h .0 .in-state))) (λ h. h) (demand1 .page-capacity P c b .0 (w .1)),
-  λ h. kind-03 P (h .0 .sized) (h .0 .in-state) ∙ ap (kindBy Filled) (demand1 .page-capacity P c b .1 (inr h)),
+      ⊎-elim (λ h. absurd (omega (arith, w .1, h .0 .in-state))) (λ h. h) (own-capacity P c b (w .0) .0 (w .2)),
+  λ h. kind-03 P (h .0 .sized) (h .0 .in-state) ∙ ap (kindBy Filled) (own-capacity P c b (h .0 .sized) .1 (inr h)),
 )
 
 -- `second` is what the reader of either code accepts, since every record fits its output
@@ -73,17 +92,18 @@ second-page : (P : List ℕ) (n : ℕ) → Bytes P → (kindOf P ≡ Second n) �
 unfolding blankOf
 second-page P n b = (
   λ e.
+      let w = kind-why P (Second n) e in
       ⊎-elim
-      (λ a. let r = demand1 .read-second .accepted P (blankOf 126) n b .0 a in (inl (r .0), r .1))
+      (λ a. let r = own-second P (blankOf 126) n b (w .0) .0 a in (inl (r .0), r .1))
       (λ a. let r = demand1 .read-inspect .accepted P (blankOf 247) n b .0 a in (inr (r .0), r .1))
-      (kind-why P (Second n) e),
+      (w .1),
   λ h. ⊎-elim (by-fill (h .1)) (by-walks (h .1)) (h .0),
 )
   where
     by-fill : n ≡ recordLength P → SecondRound fillCode P → kindOf P ≡ Second n
     by-fill e f =
         kind-07 P (f .sized) (f .in-state)
-        ∙ ap (kindBy Second) (demand1 .read-second .accepted P (blankOf 126) n b .1 (f, e, omega (arith, f .length-most)))
+        ∙ ap (kindBy Second) (own-second P (blankOf 126) n b (f .sized) .1 (f, e, omega (arith, f .length-most)))
 
     by-walks : n ≡ recordLength P → SecondRound inspectCode P → kindOf P ≡ Second n
     by-walks e f =
@@ -95,9 +115,9 @@ why-1 : (P : List ℕ) → WhyBad P 1 → ¬ Sized P
 why-1 P (not-sized _ h) = h
 why-1 P (not-blank e _ _ _) = absurd (omega arith)
 why-1 P (unknown e _ _ _ _ _ _) = absurd (omega arith)
-why-1 P (open-bad i _ a) = demand1 .page-capacity-1 P i .0 a .0
-why-1 P (second-bad i _ a) = demand1 .read-second .refused-1 P (blankOf 126) i .0 a .0
-why-1 P (inspect-bad i _ a) = demand1 .read-inspect .refused-1 P (blankOf 247) i .0 a .0
+why-1 P (open-bad i z _ a) = absurd (demand1 .page-capacity-1 P i .0 a .0 (own-sized P z))
+why-1 P (second-bad i z _ a) = absurd (demand1 .read-second .refused-1 P (blankOf 126) i .0 a .0 (own-sized P z))
+why-1 P (inspect-bad i z _ a) = absurd (demand1 .read-inspect .refused-1 P (blankOf 247) i .0 a .0 z)
 
 -- neither refuses by 4
 why-4 : (P : List ℕ) → WhyBad P 4 → Sized P × (state P ≡ 0) × ¬ (P ≡ blank)
@@ -105,18 +125,18 @@ unfolding among
 why-4 P (not-sized e _) = absurd (omega arith)
 why-4 P (not-blank _ z s h) = (z, s, h)
 why-4 P (unknown e _ _ _ _ _ _) = absurd (omega arith)
-why-4 P (open-bad i _ a) = absurd (demand1 .page-capacity-by P .listed 4 i a)
-why-4 P (second-bad i _ a) = absurd (demand1 .read-second .refused-by P (blankOf 126) .listed 4 i a)
-why-4 P (inspect-bad i _ a) = absurd (demand1 .read-inspect .refused-by P (blankOf 247) .listed 4 i a)
+why-4 P (open-bad i _ _ a) = absurd (demand1 .page-capacity-by P .listed 4 i a)
+why-4 P (second-bad i _ _ a) = absurd (demand1 .read-second .refused-by P (blankOf 126) .listed 4 i a)
+why-4 P (inspect-bad i _ _ a) = absurd (demand1 .read-inspect .refused-by P (blankOf 247) .listed 4 i a)
 
 -- neither refuses by 5 a page in its own state
 why-5 : (P : List ℕ) → WhyBad P 5 → Sized P × ¬ (state P ≡ 0) × ¬ (state P ≡ 1) × ¬ (state P ≡ 3) × ¬ (state P ≡ 7) × ¬ (state P ≡ 9)
 why-5 P (not-sized e _) = absurd (omega arith)
 why-5 P (not-blank e _ _ _) = absurd (omega arith)
 why-5 P (unknown _ z s0 s1 s3 s7 s9) = (z, s0, s1, s3, s7, s9)
-why-5 P (open-bad i s a) = let h = demand1 .page-capacity-5 P i .0 a in absurd (⊎-elim (h .1) (h .2) s)
-why-5 P (second-bad i s a) = absurd (demand1 .read-second .refused-5 P (blankOf 126) i .0 a .1 s)
-why-5 P (inspect-bad i s a) = absurd (demand1 .read-inspect .refused-5 P (blankOf 247) i .0 a .1 s)
+why-5 P (open-bad i _ s a) = let h = demand1 .page-capacity-5 P i .0 a in absurd (⊎-elim (h .1) (h .2) s)
+why-5 P (second-bad i _ s a) = absurd (demand1 .read-second .refused-5 P (blankOf 126) i .0 a .1 s)
+why-5 P (inspect-bad i _ s a) = absurd (demand1 .read-inspect .refused-5 P (blankOf 247) i .0 a .1 s)
 
 -- state 00 with another byte set
 bad-4 : (P : List ℕ) → Sized P × (state P ≡ 0) × ¬ (P ≡ blank) → kindOf P ≡ Bad 4
@@ -146,17 +166,18 @@ filled-6-or-7 P n z s e =
     let h = filled-refused P n z s .0 e in
     let by : (k : ℕ) → n ≡ k → pageCapacityAnswer P ≡ refusal k (h .0) = λ k q. h .1 ∙ ap (λ (j : ℕ). refusal j (h .0)) q in
     among-others n 5 _ (λ q. demand1 .page-capacity-5 P (h .0) .0 (by 5 q) .2 s)
-    (among-others n 1 _ (λ q. demand1 .page-capacity-1 P (h .0) .0 (by 1 q) .0 z) (demand1 .page-capacity-by P .listed n (h .0) (h .1)))
+    (among-others n 1 _ (λ q. demand1 .page-capacity-1 P (h .0) .0 (by 1 q) .0 (own-sized P z)) (demand1 .page-capacity-by P .listed n (h .0) (h .1)))
 
 -- read first refuses alike with any output that the record fits
 first-refused-as-read : (P out : List ℕ) (n : ℕ) → Sized P → state P ≡ 1 → 176 ≤ length out
     → (kindOf P ≡ Bad n) ↔ ((i : ℕ) × (readFirstAnswer P out ≡ refusal n i))
 unfolding readFirstChecks
 first-refused-as-read P out n z s l =
-    let cs = firstChecks page256 P in
-    let fits = last-passed {A = ℕ} cs (ltb (length out) 176) 3 0 0 (le-ltb (length out) 176 l) in
+    let cs = firstChecks (shapeOf P) P in
+    let k = shapeOf P .first in
+    let fits = last-passed {A = ℕ} cs (ltb (length out) k) 3 0 0 (le-ltb (length out) k (omega (arith, l, ap (λ (s : Shape). s .first) (own P z)))) in
     let r = first-refused P n z s in
-    let f = as-first page256 P (λ e. absurd (omega (arith, s, e))) in (
+    let f = as-first (shapeOf P) P (λ e. absurd (omega (arith, s, e))) in (
       λ e. let h = r .0 e in (h .0, fits ∙ same-refusal cs _ 0 n (h .0) (sym f ∙ h .1)),
       λ h. r .1 (h .0, f ∙ same-refusal cs 0 _ n (h .0) (sym fits ∙ h .1)),
     )
@@ -167,7 +188,7 @@ second-refused : (P out : List ℕ) (n : ℕ) → Sized P → state P ≡ 7 → 
 unfolding blankOf
 second-refused P out n z s l =
     let r = refused-bad Second (readSecondAnswer P out) n (λ m e. let z : _≡_ {A = ℕ} 0 1 = cc in omega arith) in
-    let k = kind-07 P z s ∙ ap (kindBy Second) (reader-fits fillCode P (blankOf 126) (omega arith) ∙ sym (reader-fits fillCode P out l)) in
+    let k = kind-07 P z s ∙ ap (kindBy Second) (reader-fits fillCode P (blankOf 126) (own P z) (omega arith) ∙ sym (reader-fits fillCode P out (own P z) l)) in
     (λ e. r .0 (sym k ∙ e), λ h. k ∙ r .1 h)
 
 -- and so does read Inspect
@@ -176,16 +197,16 @@ inspect-refused : (P out : List ℕ) (n : ℕ) → Sized P → state P ≡ 9 →
 unfolding blankOf
 inspect-refused P out n z s l =
     let r = refused-bad Second (readInspectAnswer P out) n (λ m e. let z : _≡_ {A = ℕ} 0 1 = cc in omega arith) in
-    let k = kind-09 P z s ∙ ap (kindBy Second) (reader-fits inspectCode P (blankOf 247) (omega arith) ∙ sym (reader-fits inspectCode P out l)) in
+    let k = kind-09 P z s ∙ ap (kindBy Second) (reader-fits inspectCode P (blankOf 247) refl (omega arith) ∙ sym (reader-fits inspectCode P out refl l)) in
     (λ e. r .0 (sym k ∙ e), λ h. k ∙ r .1 h)
 
 -- by 1 and by 5 neither refuses a page that is sized and in its state
-reader-6-7-or-9 : (c : Code) → ReaderOf c → (P out : List ℕ) (n i : ℕ) → Sized P → state P ≡ c .into → longest c page256 ≤ length out
-    → readAnswer c P out ≡ refusal n i → T (among n (6 ∷ 7 ∷ 9 ∷ []))
-reader-6-7-or-9 c r P out n i z s l a =
+reader-6-7-or-9 : (c : Code) → ReaderOf c → (P out : List ℕ) (n i : ℕ) → Sized P → c .shape P ≡ page256 → state P ≡ c .into
+    → longest c page256 ≤ length out → readAnswer c P out ≡ refusal n i → T (among n (6 ∷ 7 ∷ 9 ∷ []))
+reader-6-7-or-9 c r P out n i z e s l a =
     let by : (k : ℕ) → n ≡ k → readAnswer c P out ≡ refusal k i = λ k q. a ∙ ap (λ (j : ℕ). refusal j i) q in
     among-others n 5 _ (λ q. r .refused-5 P out i .0 (by 5 q) .1 s)
-    (among-others n 1 _ (λ q. r .refused-1 P out i .0 (by 1 q) .0 z) (reader-among c P out n i l a))
+    (among-others n 1 _ (λ q. r .refused-1 P out i .0 (by 1 q) .0 (rw e z)) (reader-among c P out e l n i a))
 
 second-6-7-or-9 : (P : List ℕ) (n : ℕ) → Sized P → (state P ≡ 7) ⊎ (state P ≡ 9) → kindOf P ≡ Bad n → T (among n (6 ∷ 7 ∷ 9 ∷ []))
 unfolding blankOf
@@ -193,10 +214,10 @@ second-6-7-or-9 P n z s e =
     ⊎-elim
     (λ t.
     let h = second-refused P (blankOf 126) n z t (omega arith) .0 e in
-    reader-6-7-or-9 fillCode (demand1 .read-second) P (blankOf 126) n (h .0) z t (omega arith) (h .1))
+    reader-6-7-or-9 fillCode (demand1 .read-second) P (blankOf 126) n (h .0) z (own P z) t (omega arith) (h .1))
     (λ t.
     let h = inspect-refused P (blankOf 247) n z t (omega arith) .0 e in
-    reader-6-7-or-9 inspectCode (demand1 .read-inspect) P (blankOf 247) n (h .0) z t (omega arith) (h .1))
+    reader-6-7-or-9 inspectCode (demand1 .read-inspect) P (blankOf 247) n (h .0) z refl t (omega arith) (h .1))
     s
 
 pub kinds-exact : KindsExact
@@ -229,10 +250,10 @@ zeroPage = firstPage page256 blank zeroRecord
 
 -- it is a first-round page, and its words are those of the record
 pub zero-first : FirstRound zeroPage
-zero-first = first-written sound256 refl zeroRecord
+zero-first = first-written sound256 zeroRecord
 
 zero-words : pageWords zeroPage 44 ≡ firstWords 44 zeroRecord
-zero-words = words-written sound256 refl zeroRecord
+zero-words = words-written sound256 zeroRecord
 
 -- they have 44 times 23 data cells
 zero-capacity : capacityAll (firstWords 44 zeroRecord) ≡ 1012
@@ -242,7 +263,7 @@ zero-capacity = refl
 -- so its kind has 1012
 pub zero-kind : kindOf zeroPage ≡ First 1012
 zero-kind =
-    let c : 1012 ≡ dataCells zeroPage = sym (ap capacityAll zero-words ∙ zero-capacity) ∙ demand3 .capacity-is zeroPage zero-first in
+    let c : 1012 ≡ dataCells zeroPage = sym (ap capacityAll zero-words ∙ zero-capacity) ∙ demand3 .figures .capacity-is zeroPage zero-first in
     first-page zeroPage 1012 (zero-first .of-bytes) .1 (zero-first, c)
 
 -- the two lines

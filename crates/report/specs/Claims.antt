@@ -1,5 +1,5 @@
 -- What holds of kinds and lines for every piece of input, and of the listing for every input. proofs/Claims.antt proves it.
--- demands/specs/Demands.antt says how to read a clause.
+-- demands/specs/Demands.antt says how to read a clause. "The listing, the gain sheet [..] stay with 256 bytes": the terms are those of that page.
 -- Assumes nothing.
 use mathlib.Core.Bool.{Bool, true, false}
 use mathlib.Core.List.{List, [], _∷_, _++_}
@@ -11,18 +11,40 @@ use lib.ListN.{length, take, replicate}
 use Rattle.cells.specs.Bytes.{Bytes}
 use Rattle.text.specs.Text.{ascii}
 use Rattle.answer.specs.Answer.{refusal, among}
-use Rattle.rows.specs.Page.{page256, state, stateFirst, stateFilled, stateSecond, stateInspect, recordLength, firstPage}
-use Rattle.rows.specs.Code.{fillCode}
+use Rattle.rows.specs.Page.{page256, state, stateFirst, stateFilled, stateSecond, stateInspect, recordLength, firstPage, blankOf, FirstRoundOf, FilledOf}
+use Rattle.rows.specs.Code.{Code, fillCode, SecondRoundOf}
+use Rattle.page.specs.Terms.{SizedOf}
 use Rattle.page.specs.Answer.{readFirstAnswer}
 use Rattle.filled.specs.Answer.{pageCapacityAnswer}
 use Rattle.second.specs.Answer.{readSecondAnswer}
 use Rattle.inspect.specs.Rows.{inspectCode}
 use Rattle.inspect.specs.Answer.{readInspectAnswer}
-use Rattle.demands.specs.Demands.{blank, Sized, FirstRound, Filled as FilledPage, SecondRound, dataCells, filledCells}
+use Rattle.demands.specs.Demands.{dataCellsOf, filledCellsOf}
 use Rattle.report.specs.Kinds.{kindOf}
 use Rattle.report.specs.Lines.{lineOf}
 use Rattle.report.specs.Listing.{listingFrom, listingOf, firstTurn, turnsFrom}
 use Rattle.report.specs.declared.Kind.the-variants.{Blank, First, Filled, Second, Bad}
+
+abbrev pub blank : List ℕ
+blank = blankOf 256
+
+abbrev pub Sized : List ℕ → Type 0
+Sized P = SizedOf page256 P
+
+abbrev pub FirstRound : List ℕ → Type 0
+FirstRound P = FirstRoundOf page256 P
+
+abbrev pub FilledPage : List ℕ → Type 0
+FilledPage P = FilledOf page256 P
+
+abbrev pub SecondRound : Code → List ℕ → Type 0
+SecondRound c P = SecondRoundOf c page256 P
+
+abbrev pub dataCells : List ℕ → ℕ
+dataCells P = dataCellsOf page256 P
+
+abbrev pub filledCells : List ℕ → ℕ
+filledCells P = filledCellsOf page256 P
 
 -- Each kind is given just where the documents say, and `bad` has no other number than the six that they name.
 pub record KindsExact : Type 0 where

@@ -4,11 +4,12 @@ use mathlib.Core.Bool.{true, not}
 use mathlib.Core.List.{List, [], _∷_}
 use mathlib.Core.Path.{_≡_, refl, sym, ap, ap₂, _∙_, subst}
 use Prim.Native.Nat.{ℕ, zero, suc}
+use native.Mathlib.Omega.{arith}
 use borrow.Author.Tests.{not-true, not-false}
 use lib.Dec.{T, eqb, eqb→eq}
 use lib.ListN.{length, length-replicate}
 use mir.Facts.{and-yes}
-use Rattle.cells.specs.Bytes.{zeros}
+use Rattle.cells.specs.Bytes.{Bytes, zeros}
 use Rattle.cells.proofs.Tests.{holds}
 use Rattle.answer.proofs.Tells.{Tells}
 use Rattle.rows.specs.Page.{blankOf}
@@ -25,6 +26,12 @@ blank-zeros [] h = refl
 blank-zeros (b ∷ P) h =
     let p = and-yes (eqb b 0) (zeros P) h in
     ap₂ (λ (x : ℕ) (l : List ℕ). x ∷ l) (eqb→eq b 0 (p .0)) (blank-zeros P (p .1))
+
+pub Bytes-blank : (n : ℕ) → Bytes (blankOf n)
+unfolding blankOf
+Bytes-blank zero i = omega arith
+Bytes-blank (suc n) zero = omega arith
+Bytes-blank (suc n) (suc i) = Bytes-blank n i
 
 pub length-blank : (n : ℕ) → length (blankOf n) ≡ n
 unfolding blankOf

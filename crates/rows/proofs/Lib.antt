@@ -8,3 +8,5 @@ pub mod Loaded
 pub mod Sums
 pub mod Counting
 pub mod Blank
+pub mod Shapes
+pub mod Headers

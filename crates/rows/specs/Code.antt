@@ -8,12 +8,15 @@ use Prim.Native.Nat.{ℕ, _*_, _/_, _≤_, _<_}
 use lib.Dec.{T}
 use lib.ListN.{length, drop, getD}
 use Rattle.cells.specs.Cells.{someSet}
-use Rattle.cells.specs.Bytes.{bits, bytes, Bytes}
+use Rattle.cells.specs.Bytes.{bits, bytes, Bytes, zeros}
 use Rattle.window.specs.Words.{pageWords, putWords}
 use Rattle.word.specs.Fill.{wellFormed, isFilled}
-use Rattle.rows.specs.Page.{Shape, state, byte2, stateFilled, stateSecond, recordLength, withHeader, fillAll, readAll, putAll, OpenOf}
+use Rattle.rows.specs.declared.shape.Shape.{Shape}
+use Rattle.rows.specs.Page.{shapeOf, state, byte2, tail, stateFilled, stateSecond, recordLength, withHeader, fillAll, readAll, putAll, OpenOf}
 
 pub record Code : Type 0 where
+  -- the shape that it holds a page to
+  pub shape : List ℕ → Shape
   -- the state of the page that its writer takes, and the test of that page's words
   pub over : ℕ
   pub takes : List Bool → Bool
@@ -37,6 +40,7 @@ pub record Code : Type 0 where
 -- the fill code: a filled page takes the record's bits in its data cells, and leaves the spare ones 0
 abbrev pub fillCode : Code
 fillCode = record {
+  shape = shapeOf;
   over = stateFilled;
   takes = isFilled;
   prepare = fillAll;
@@ -53,11 +57,11 @@ fillCode = record {
 
 -- ---- the figures of a code on a page
 
--- the bytes of the longest record that byte 1 may tell: 126 by the fill code
+-- the bytes of the longest record that byte 1 may tell: by the fill code 126, and 253 of 512 bytes
 abbrev pub longest : Code → Shape → ℕ
 longest c s = c .most * s .words / 8
 
--- the bytes of the record that is sure to fit: 82 by the fill code
+-- the bytes of the record that is sure to fit: by the fill code 82, and 165 of 512 bytes
 abbrev pub sure : Code → Shape → ℕ
 sure c s = c .least * s .words / 8
 
@@ -113,13 +117,14 @@ abbrev pub AllJudgedOf : Code → Shape → List ℕ → Type 0
 AllJudgedOf c s page = (j : ℕ) → j < s .words → T (c .passes (getD (judgedOf c s page) j []))
 
 -- a page that a code's reader accepts, given output enough (document 01 has no term for it): its state, a length that the code allows, byte 2
--- at 0, all judged words pass, bits enough for the record, and no spare data cell set
+-- and the bytes after the words at 0, all judged words pass, bits enough for the record, and no spare data cell set
 pub record SecondRoundOf (c : Code) (s : Shape) (page : List ℕ) : Type 0 where
   pub sized : length page ≡ s .size
   pub of-bytes : Bytes page
   pub in-state : state page ≡ c .into
   pub length-most : recordLength page ≤ longest c s
   pub byte2-zero : byte2 page ≡ 0
+  pub tail-zero : T (zeros (tail (s .words) page))
   pub words-pass : AllJudgedOf c s page
   pub bits-enough : 8 * recordLength page ≤ length (foundOf c s page)
   pub spare-zero : spareOf c s page ≡ false

@@ -1,33 +1,41 @@
--- The page (document 01, the section of that name). A page is its list of bytes. The definitions are over a shape of page, or over what of
--- it they need; document 01's page is the shape `page256`.
+-- The page (document 01, the section of that name, and document 02, Change 8). A page is its list of bytes. The definitions are over a shape
+-- of page, or over what of it they need; document 01's page is the shape `page256`, the new chip's larger page `page512`.
 -- Assumes nothing.
-use mathlib.Core.Bool.{Bool, cond, _&&_}
+use mathlib.Core.Bool.{Bool, cond, not, _&&_, _||_}
 use mathlib.Core.List.{List, [], _∷_, _++_}
 use mathlib.Core.Path.{_≡_}
-use Prim.Native.Nat.{ℕ, zero, suc, _+_, _*_, _<_}
-use lib.Dec.{T, eqb}
+use Prim.Native.Nat.{ℕ, zero, suc, _+_, _*_, _/_, _<_}
+use lib.Dec.{T, eqb, ltb}
 use lib.ListN.{length, take, drop, getD, replicate}
 use Rattle.cells.specs.Cells.{number}
 use Rattle.cells.specs.Bytes.{bits, highFirst, Bytes, zeros}
 use Rattle.window.specs.Words.{wordAt, pageWords, putWords}
 use Rattle.word.specs.Word.{sum, legal, zeckendorf}
 use Rattle.word.specs.Fill.{fill, fillPulses, read, capacity, put, isFilled}
+use Rattle.rows.specs.declared.shape.Shape.{Shape}
 
--- ---- the shape
+-- ---- the shape: "its length, words and record size". `Shape` is the code's own struct, of rows/src/shape.rt
 
--- a shape of page: its size in bytes, the number of its words, and the bytes of its first record
-pub record Shape : Type 0 where
-  pub size : ℕ
-  pub words : ℕ
-  pub firstBytes : ℕ
-
--- the shape of a page of so many bytes and words: a word takes four bytes of a first record
+-- a page of so many bytes and words: all else follows, a word takes four bytes of a first record
 abbrev pub shape : ℕ → ℕ → Shape
-shape size n = record { size = size; words = n; firstBytes = 4 * n }
+shape size n = record { size = size; words = n; first = 4 * n }
 
--- document 01's page
+-- document 01's page: a first record of 176 bytes
 abbrev pub page256 : Shape
-page256 = record { size = 256; words = 44; firstBytes = 176 }
+page256 = shape 256 44
+
+-- "The new chip has larger pages": 88 words, "a first record of 352 bytes"
+abbrev pub page512 : Shape
+page512 = shape 512 88
+
+-- the shape that a page of so many bytes is held to: the larger page's where it has that size, and document 01's for any other. A page of
+-- neither size does not have the size of its shape: "Refusal 1 now means neither 256 nor 512 bytes"
+unfoldable pub shapeFor : ℕ → Shape
+shapeFor size = cond (eqb size 512) page512 page256
+
+-- a page's own shape
+abbrev pub shapeOf : List ℕ → Shape
+shapeOf page = shapeFor (length page)
 
 -- ---- bytes and words
 
@@ -57,6 +65,16 @@ stateInspect = 9
 -- "Byte 1 is the second record's length in bytes"
 abbrev pub recordLength : List ℕ → ℕ
 recordLength page = byte1 page
+
+-- the bytes after a page's n words, which follow its first three: none of 256 bytes, "bytes 509 to 511" of 512
+abbrev pub tail : ℕ → List ℕ → List ℕ
+tail n page = drop (3 + 46 * n / 8) page
+
+-- refusal 6, in every state that has one, of a page of n words whose second record has at most so many bytes: the length is above that, or byte
+-- 2 is not 0, or a byte after the words is not ("6 covers bytes 509 to 511"). Without a second record it has at most 0: "6 if byte 1 or byte 2
+-- is not 0"
+unfoldable pub badHeader : ℕ → ℕ → List ℕ → Bool
+badHeader most n page = ltb most (recordLength page) || (not (eqb (byte2 page) 0) || not (zeros (tail n page)))
 
 -- a page with its state and its record's length put, every other byte kept
 abbrev pub withHeader : ℕ → ℕ → List ℕ → List ℕ
@@ -130,16 +148,18 @@ secondBitsOf s page = readAll (pageWords page (s .words))
 unfoldable pub blankOf : ℕ → List ℕ
 blankOf size = replicate size 0
 
--- a page in state k that holds no second record, its bytes 1 and 2 at 0, and whose words all pass a test
+-- a page in state k that holds no second record, its bytes 1 and 2 and those after the words at 0, and whose words all pass a test
 pub record OpenOf (k : ℕ) (test : List Bool → Bool) (s : Shape) (page : List ℕ) : Type 0 where
   pub sized : length page ≡ s .size
   pub of-bytes : Bytes page
   pub in-state : state page ≡ k
   pub byte1-zero : byte1 page ≡ 0
   pub byte2-zero : byte2 page ≡ 0
+  pub tail-zero : T (zeros (tail (s .words) page))
   pub words-pass : (i : ℕ) → i < s .words → T (test (wordAt page i))
 
--- the term "first-round page": a page in state 01 whose bytes 1 and 2 are 0 and whose words are all legal
+-- the term "first-round page": a page in state 01 whose bytes 1 and 2 are 0 and whose words are all legal; "and bytes 509 to 511 at 0, without
+-- which it is no first-round page"
 abbrev pub FirstRoundOf : Shape → List ℕ → Type 0
 FirstRoundOf s page = OpenOf stateFirst legal s page
 

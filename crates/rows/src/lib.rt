@@ -2,6 +2,7 @@
 pub mod filling;
 pub mod first_round;
 pub mod second_round;
+pub mod shape;
 pub mod words;
 
 // The states of a page, its byte 0; 0 is blank.

@@ -2,7 +2,7 @@
 use crate::filling::Counted;
 use cells::bits_at;
 use window::load_word;
-use window::put_cells;
+use window::put_few;
 use window::store_word;
 use word::second::data_cells;
 use word::second::put_bits;
@@ -32,9 +32,9 @@ pub fn put_record(page: &mut [u8], second: &[u8], n: usize)
 }
 
 // Puts what the data cells of a page's n words hold into a buffer, word 0 first, up to the first word that is not well formed. A word has at
-// most 23, which are put through eight bytes of the buffer.
+// most 23, which are put through four bytes of the buffer.
 pub fn gather(page: &[u8], buffer: &mut [u8], n: usize) -> Counted
-    requires { ⌜ (start n ≤ 8 * length (now page)) × (23 * n + 40 ≤ 8 * length (now buffer)) × (n < 2 ^ 16) ⌝ }
+    requires { ⌜ (start n ≤ 8 * length (now page)) × (23 * n + 9 ≤ 8 * length (now buffer)) × (n < 2 ^ 16) ⌝ }
     ensures words { λ r. ⌜ r .words ≡ lowest wellFormed (pageWords (now (page .entry)) n) ⌝ }
     ensures cells { λ r. ⌜ r .cells ≡ length (readAll (pageWords (now (page .entry)) (r .words))) ⌝ }
     ensures bytes { λ r. ⌜ now (buffer .exit) ≡ putCells (now (buffer .entry)) 0 (readAll (pageWords (now (page .entry)) (r .words))) ⌝ }
@@ -51,7 +51,7 @@ pub fn gather(page: &[u8], buffer: &mut [u8], n: usize) -> Counted
         }
         let separators = separators_of(word);
         let count = data_cells(separators) as usize;
-        put_cells(buffer, at, count, read_bits(word, separators));
+        put_few(buffer, at, count, read_bits(word, separators));
         at += count;
         i += 1;
     }

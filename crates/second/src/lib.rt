@@ -1,4 +1,4 @@
-// The second record of a page of 256 bytes and 44 words: written over a filled page, and read back.
+// The second record of a page, of 256 bytes and 44 words or of 512 and 88: written over a filled page, and read back.
 //
 // Each operation takes byte slices of every length and has no `requires`. It answers by an enum of its own: a value case, and a case for
 // each refusal. The first refusal that applies, in the documents' order, is given, and a refusal writes no byte.
@@ -8,6 +8,8 @@ use filled::check::FilledCheck;
 use filled::check::check_filled;
 use rows::STATE_SECOND;
 use rows::second_round;
+use rows::shape::bad_header;
+use rows::shape::shape_of;
 ghost use mathlib.Core.Path.{_≡_};
 ghost use Rattle.second.specs.Answer.{writeSecondAnswer, writeSecondLeaves, readSecondAnswer, readSecondLeaves, secondWrittenCode, secondReadCode};
 
@@ -38,7 +40,8 @@ pub fn write_second(page: &mut [u8], second: &[u8]) -> SecondWritten
     ensures answer { λ r. ⌜ secondWrittenCode r ≡ writeSecondAnswer (now (page .entry)) (now (second .entry)) ⌝ }
     ensures bytes { λ _. ⌜ now (page .exit) ≡ writeSecondLeaves (now (page .entry)) (now (second .entry)) ⌝ }
 {
-    let c = check_filled(page, 256, 44);
+    let s = shape_of(page.len());
+    let c = check_filled(page, s);
     match c {
         FilledCheck::Passed(room) => {
             if ((room / 8) as usize) < second.len() {
@@ -46,7 +49,7 @@ pub fn write_second(page: &mut [u8], second: &[u8]) -> SecondWritten
             }
             page[0] = STATE_SECOND;
             page[1] = second.len() as u8;
-            second_round::put_record(page, second, 44);
+            second_round::put_record(page, second, s.words);
             SecondWritten::Done
         }
         FilledCheck::PageLength => SecondWritten::PageLength,
@@ -62,21 +65,19 @@ pub fn read_second(page: &[u8], out: &mut [u8]) -> SecondRead
     ensures answer { λ r. ⌜ secondReadCode r ≡ readSecondAnswer (now (page .entry)) (now (out .entry)) ⌝ }
     ensures bytes { λ _. ⌜ now (out .exit) ≡ readSecondLeaves (now (page .entry)) (now (out .entry)) ⌝ }
 {
-    if page.len() != 256 {
+    let s = shape_of(page.len());
+    if page.len() != s.size {
         return SecondRead::PageLength;
     }
     if page[0] != STATE_SECOND {
         return SecondRead::State;
     }
-    if 126 < page[1] {
+    if bad_header(page, s.words, 23 * s.words / 8) {
         return SecondRead::Header;
     }
-    if page[2] != 0 {
-        return SecondRead::Header;
-    }
-    let mut buffer: [u8; 132] = [0; 132];
-    let found = second_round::gather(page, &mut buffer, 44);
-    if found.words < 44 {
+    let mut buffer: [u8; 256] = [0; 256];
+    let found = second_round::gather(page, &mut buffer, s.words);
+    if found.words < s.words {
         return SecondRead::Word(found.words as u32);
     }
     let n = page[1] as usize;

@@ -8,7 +8,7 @@ use native.Mathlib.Omega.{arith}
 use lib.Dec.{eqb}
 use lib.IntN.{+ℤ-idl}
 use Rattle.text.specs.Text.{ascii, digits, decimal, signed}
-use Rattle.demands.specs.Demands.{blank}
+use Rattle.report.specs.Claims.{blank}
 use Rattle.report.specs.Listing.{piecesOf}
 use Rattle.report.specs.declared.Kind.{Kind}
 use Rattle.report.specs.declared.Kind.the-variants.{Blank, First, Filled, Second, Bad}

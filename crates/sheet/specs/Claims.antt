@@ -9,7 +9,7 @@ use lib.IntN.{ℤ, pos, negℤ, _+ℤ_}
 use lib.ListN.{length, take, replicate}
 use Rattle.text.specs.Text.{ascii}
 use Rattle.rows.specs.Page.{page256, firstPage}
-use Rattle.demands.specs.Demands.{blank}
+use Rattle.report.specs.Claims.{blank}
 use Rattle.report.specs.Kinds.{kindOf}
 use Rattle.report.specs.Listing.{piecesOf, firstTurn}
 use Rattle.report.specs.declared.Kind.{Kind}

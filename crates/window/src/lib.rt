@@ -1,5 +1,6 @@
 // The words of a page as numbers of 64 bits. A word moves whole: the eight bytes that end at its last byte hold it, and a load or a
-// store goes through that window. Cells at any place are put through the eight bytes from the one that holds their first on.
+// store goes through that window. Cells at any place are put through the eight bytes from the one that holds their first on, few of them
+// through four.
 use cells::four_bytes;
 use cells::put_bytes;
 ghost use mathlib.Core.Path.{_≡_};
@@ -79,6 +80,16 @@ pub fn put_cells(page: &mut [u8], at: usize, count: usize, v: u64)
     let k = at / 8;
     let old = window(page, k);
     put_bytes(page, k, 8, replaced(old, 64 - at % 8 - count, count, v));
+}
+
+// The same for at most 25 cells, through four bytes: a buffer need be no longer than what is put.
+pub fn put_few(page: &mut [u8], at: usize, count: usize, v: u64)
+    requires { ⌜ (at / 8 + 4 ≤ length (now page)) × (1 ≤ count) × (count ≤ 25) × (v < 2 ^ count) ⌝ }
+    ensures { λ _. ⌜ now (page .exit) ≡ putCells (now (page .entry)) at (cells count v) ⌝ }
+{
+    let k = at / 8;
+    let old = four_bytes(page, k);
+    put_bytes(page, k, 4, replaced(old, 32 - at % 8 - count, count, v));
 }
 
 // Copies a page's 256 bytes, eight at a time. (A copy byte by byte would be compiled to a call of the C library.)

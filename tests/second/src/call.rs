@@ -2,6 +2,7 @@
 
 use crate::answer::Answer;
 use crate::page::{BLANK, FILLED, FIRST_ROUND, INSPECTED, SECOND_ROUND};
+use crate::shape::{Shape, SMALL};
 use crate::{file, inspect, page, word};
 
 /// The entries, in the order of their numbers.
@@ -128,6 +129,16 @@ impl Entry {
         }
     }
 
+    /// The shapes of the pages that the entry accepts; none for an entry without a page of its own. "The listing, the gain
+    /// sheet, the van's file and Inspect stay with 256 bytes."
+    pub fn shapes(self) -> &'static [Shape] {
+        match self {
+            Entry::WriteInspect | Entry::ReadInspect => &[SMALL],
+            _ if self.takes_page() => &Shape::BOTH,
+            _ => &[],
+        }
+    }
+
     pub fn takes_page(self) -> bool {
         Entry::OF_PAGES.contains(&self)
     }
@@ -236,6 +247,20 @@ mod tests {
             let after_the_fill = [FILLED, SECOND_ROUND].iter().any(|state| entry.states().contains(state));
             assert_eq!(after_the_fill, Entry::AFTER_THE_FILL.contains(&entry));
             assert_eq!(entry.states().is_empty(), !entry.takes_page());
+        }
+    }
+
+    /// Every entry with a page takes both sizes, but those of the Inspect code.
+    #[test]
+    fn the_shapes_of_the_entries() {
+        for entry in Entry::ALL {
+            let sizes: Vec<usize> = entry.shapes().iter().map(|shape| shape.bytes).collect();
+            let wanted: &[usize] = match entry.number() {
+                4..=8 | 10 => &[256, 512],
+                11 | 12 => &[256],
+                _ => &[],
+            };
+            assert_eq!(sizes, wanted, "{}", entry.name());
         }
     }
 }

@@ -1,7 +1,7 @@
-//! The transfer file.
+//! The transfer file, of pages of 256 bytes.
 
 use crate::answer::{refuse_if, Answer, Refusal};
-use crate::page::PAGE_BYTES;
+use crate::shape::SMALL;
 
 /// "A file has 0 to 64 pages of 256 bytes."
 pub const FILE_PAGES_MOST: usize = 64;
@@ -28,7 +28,7 @@ fn field(tag: u8, contents: &[u8]) -> Vec<u8> {
 fn file_of(device: u32, pages: &[u8]) -> Vec<u8> {
     let mut file = START.to_vec();
     file.extend(field(DEVICE_TAG, &device.to_be_bytes()));
-    for page in pages.chunks(PAGE_BYTES) {
+    for page in pages.chunks(SMALL.bytes) {
         file.extend(field(PAGE_TAG, page));
     }
     file.extend(field(END_TAG, &[]));
@@ -37,8 +37,8 @@ fn file_of(device: u32, pages: &[u8]) -> Vec<u8> {
 
 /// "The writer returns the number of bytes written; output after them is unchanged."
 pub fn write_file(device: u32, pages: &[u8], output: &mut [u8]) -> Answer {
-    let rest = pages.len() % PAGE_BYTES;
-    refuse_if(rest > 0 || pages.len() > FILE_PAGES_MOST * PAGE_BYTES, Refusal::PAGES_LENGTH)?;
+    let rest = pages.len() % SMALL.bytes;
+    refuse_if(rest > 0 || pages.len() > FILE_PAGES_MOST * SMALL.bytes, Refusal::PAGES_LENGTH)?;
     let file = file_of(device, pages);
     refuse_if(output.len() < file.len(), Refusal::OUTPUT_LENGTH)?;
     output[..file.len()].copy_from_slice(&file);
@@ -82,6 +82,17 @@ mod tests {
             assert_eq!(output[start + 3..start + 259], [byte; 256]);
         }
         assert_eq!(output[786..], [0x7F, 0x00, 0x00]);
+    }
+
+    /// "the van's file [...] stay with 256 bytes": 512 bytes are two pages, each in a field of its own.
+    #[test]
+    fn bytes_512_are_two_pages() {
+        let page: Vec<u8> = (0..512).map(|place| (place * 7 + place / 256) as u8).collect();
+        let (answer, output) = written(1, &page, 530);
+        assert_eq!(answer, Ok(530));
+        for (start, half) in [(9, &page[..256]), (268, &page[256..])] {
+            assert_eq!(output[start..start + 259], [&[0x01, 0x01, 0x00], half].concat());
+        }
     }
 
     #[test]

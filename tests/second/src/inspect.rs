@@ -4,7 +4,8 @@ use crate::answer::{refuse_if, Answer, Refusal};
 use crate::page::{
     bits_of, first_round_words, put_record_out, put_words, refuse_word, words_below_header, Words, INSPECTED,
 };
-use crate::word;
+use crate::shape::SMALL;
+use crate::word::{self, Cells};
 
 /// "byte 1 holds 0 to 247".
 pub const INSPECT_BYTES_MOST: usize = 247;
@@ -75,7 +76,7 @@ pub fn clear_pairs(cells: &mut [bool], steps: &[Step]) {
 
 /// The steps of each word's walk, until `count` bits are read. "A pair counts as read when the walk meets it before the
 /// length in byte 1 is reached."
-pub fn walks(words: &Words, count: usize) -> Vec<Vec<Step>> {
+pub fn walks(words: &[Cells], count: usize) -> Vec<Vec<Step>> {
     let mut left = count;
     let mut walks = Vec::new();
     for cells in words {
@@ -87,17 +88,23 @@ pub fn walks(words: &Words, count: usize) -> Vec<Vec<Step>> {
 }
 
 /// The words with the read 11 pairs put to 00.
-pub fn without_pairs(words: &Words, walks: &[Vec<Step>]) -> Words {
-    let mut words = *words;
+pub fn without_pairs(words: &[Cells], walks: &[Vec<Step>]) -> Words {
+    let mut words = words.to_vec();
     for (cells, steps) in words.iter_mut().zip(walks) {
         clear_pairs(cells, steps);
     }
     words
 }
 
+/// "Refusal 1 now means neither 256 nor 512 bytes (for Inspect still not 256)".
+fn refuse_length(page: &[u8]) -> Result<(), Refusal> {
+    refuse_if(page.len() != SMALL.bytes, Refusal::PAGE_LENGTH)
+}
+
 /// Puts a record over a first-round page. It refuses "8 when the last word's walk ends before the record does, with the
 /// number of record bits that all the words' walks take".
 pub fn write_inspect(page: &mut [u8], record: &[u8]) -> Answer {
+    refuse_length(page)?;
     let mut words = first_round_words(page)?;
     let mut bits = bits_of(record);
     let taken = words.iter_mut().map(|cells| put_bits(cells, &mut bits)).sum();
@@ -111,7 +118,8 @@ pub fn write_inspect(page: &mut [u8], record: &[u8]) -> Answer {
 /// "Its reader answers as read second does and refuses 1, 5 for a state other than 09, 6 for byte 1 above 247 or byte 2 not
 /// 0, 7 with the lowest index of a word not legal so, 9 when the walk ends before that length is reached, then 3."
 pub fn read_inspect(page: &[u8], output: &mut [u8]) -> Answer {
-    let words = words_below_header(page, INSPECTED, INSPECT_BYTES_MOST)?;
+    refuse_length(page)?;
+    let words = words_below_header(page, INSPECTED)?;
     let count = 8 * usize::from(page[1]);
     let walks = walks(&words, count);
     refuse_word(&without_pairs(&words, &walks), word::legal)?;
@@ -123,16 +131,17 @@ pub fn read_inspect(page: &[u8], output: &mut [u8]) -> Answer {
 #[cfg(test)]
 mod tests {
     use super::*;
-    use crate::cases::inspect::{any_record, first_taking_less, inspect_page, longest_of, record_for, RECORDS};
+    use crate::cases::inspect::{
+        any_record, first_taking_less, inspect_page, large_inspect, longest_of, record_for, RECORDS,
+    };
     use crate::cases::pages::{
-        any_first, filled_page, first_page, second_page, with_byte, with_flip, with_value, with_word,
+        any_first, filled_page, first_page, page_of, second_page, with_byte, with_flip, with_value, with_word,
     };
     use crate::cases::words::{any_value, END_VALUES, LISTED_VALUES, ODD_VALUE, SPARSE_VALUE};
-    use crate::page::{
-        fill_page, page_capacity, read_first, read_second, words_of, write_first, write_second, PAGE_BYTES, WORDS,
-    };
+    use crate::page::{fill_page, page_capacity, read_first, read_second, words_of, write_first, write_second};
     use crate::random::Random;
-    use crate::word::{cells_with_sum, legal_word, Cells, CELLS, LARGEST_SUM, LARGEST_VALUE};
+    use crate::shape::LARGE;
+    use crate::word::{cells_with_sum, legal_word, CELLS, LARGEST_SUM, LARGEST_VALUE};
     use std::collections::HashSet;
 
     /// The cells, or bits, that a text of 0 and 1 names.
@@ -284,24 +293,24 @@ mod tests {
     /// "so 126 bytes always go in", 127 not always; 247 go into some page, 248 into none.
     #[test]
     fn the_figures_of_change_7() {
-        let zeros = first_page(&[0; WORDS]);
+        let zeros = page_of(SMALL, 0);
         outcome(&zeros, &[0xFF; 126]);
         check_refused(&zeros, &[0xFF; 127], 1_012);
         outcome(&zeros, &[0; 247]);
         check_refused(&zeros, &[0; 248], 1_980);
-        assert_eq!((INSPECT_BYTES_SURE, INSPECT_BYTES_MOST), (23 * WORDS / 8, 45 * WORDS / 8));
+        assert_eq!((INSPECT_BYTES_SURE, INSPECT_BYTES_MOST), (23 * SMALL.words / 8, 45 * SMALL.words / 8));
     }
 
     /// Pages of one value, with what a record of zeros takes of a word; a record of ones takes 23 bits of each.
     #[test]
     fn pages_of_one_value() {
         for (value, bits) in [(0, 45), (1, 45), (2, 45), (3, 44), (SPARSE_VALUE, 30), (ODD_VALUE, 23)] {
-            let first = first_page(&[value; WORDS]);
+            let first = page_of(SMALL, value);
             for (byte, bits) in [(0x00, bits), (0xFF, 23)] {
-                let most = WORDS * bits / 8;
+                let most = SMALL.words * bits / 8;
                 outcome(&first, &vec![byte; most]);
                 for length in [most + 1, 256, 1_000, 65_700] {
-                    check_refused(&first, &vec![byte; length], WORDS * bits);
+                    check_refused(&first, &vec![byte; length], SMALL.words * bits);
                 }
             }
         }
@@ -311,7 +320,7 @@ mod tests {
     fn any_pages_and_records() {
         let mut random = Random::new(2);
         for turn in 0..300 {
-            let first = any_first(&mut random);
+            let first = any_first(&mut random, SMALL);
             let record = RECORDS[turn % RECORDS.len()](&mut random, INSPECT_BYTES_MOST + 1);
             outcome(&first, &record[..INSPECT_BYTES_SURE]);
             let longest = longest_of(&first, record.clone());
@@ -319,14 +328,14 @@ mod tests {
             let answer = write_inspect(&mut first.clone(), &record[..=longest.len()]);
             assert_eq!(answer, write_inspect(&mut first.clone(), &record));
             let taken = answer.expect_err("one byte more").index as usize;
-            assert!(taken / 8 == longest.len() && (23 * WORDS..=45 * WORDS).contains(&taken));
+            assert!(taken / 8 == longest.len() && (23 * SMALL.words..=45 * SMALL.words).contains(&taken));
         }
     }
 
     /// Every record length over a page that takes all of them.
     #[test]
     fn every_record_length() {
-        let first = first_page(&[0; WORDS]);
+        let first = page_of(SMALL, 0);
         for length in 0..=INSPECT_BYTES_MOST {
             outcome(&first, &vec![0; length]);
         }
@@ -337,7 +346,7 @@ mod tests {
     fn a_record_of_length_0() {
         let mut random = Random::new(3);
         for _ in 0..50 {
-            let first = any_first(&mut random);
+            let first = any_first(&mut random, SMALL);
             assert_eq!(outcome(&first, &[]), with_byte(first, 0, 0x09));
         }
     }
@@ -347,7 +356,7 @@ mod tests {
     fn cells_after_the_last_bit() {
         let mut random = Random::new(4);
         for _ in 0..50 {
-            let first = any_first(&mut random);
+            let first = any_first(&mut random, SMALL);
             let page = outcome(&first, &record_for(&mut random, &first, 1));
             let (before, after) = (words_of(&first).concat(), words_of(&page).concat());
             let walks = walks(&words_of(&page), 8 * usize::from(page[1]));
@@ -362,7 +371,7 @@ mod tests {
     fn different_records_give_different_pages() {
         let mut random = Random::new(5);
         for _ in 0..20 {
-            let first = any_first(&mut random);
+            let first = any_first(&mut random, SMALL);
             let length = random.between(1, INSPECT_BYTES_SURE);
             let record = any_record(&mut random, length);
             let others = (0..8 * record.len()).map(|bit| with_flip(record.clone(), bit));
@@ -378,9 +387,9 @@ mod tests {
     fn an_accepted_page_comes_from_a_first_round_page() {
         let mut random = Random::new(6);
         for _ in 0..100 {
-            let first = any_first(&mut random);
+            let first = any_first(&mut random, SMALL);
             let page = inspect_page(&first, &record_for(&mut random, &first, 0));
-            let page = with_flip(page, random.between(24, 8 * PAGE_BYTES - 1));
+            let page = with_flip(page, random.between(24, 8 * SMALL.bytes - 1));
             let Ok(record) = record_of(&page) else { continue };
             let words = words_of(&page);
             let mut first = with_byte(with_byte(page.clone(), 0, 0x01), 1, 0);
@@ -393,7 +402,7 @@ mod tests {
     #[test]
     fn the_writer_refuses_as_read_first() {
         let mut random = Random::new(7);
-        let first = first_page(&[77; WORDS]);
+        let first = page_of(SMALL, 77);
         let pair = with_word(first.clone(), 20, std::array::from_fn(|cell| cell == 8 || cell == 9));
         let sum = with_word(pair.clone(), 43, cells_with_sum(LARGEST_SUM));
         for (page, refusal) in [
@@ -419,7 +428,7 @@ mod tests {
     /// Each refusal of the reader before the next one, and the output stays.
     #[test]
     fn the_reader_refuses_in_order() {
-        let page = inspect_page(&first_page(&[SPARSE_VALUE; WORDS]), &[0; 165]);
+        let page = inspect_page(&page_of(SMALL, SPARSE_VALUE), &[0; 165]);
         let long = with_byte(page.clone(), 1, 166);
         let word = with_word(long.clone(), 43, cells_with_sum(LARGEST_SUM));
         let header = with_byte(word.clone(), 2, 1);
@@ -455,8 +464,8 @@ mod tests {
     /// bit of the record's end with them; after it they are refused.
     #[test]
     fn neighbours_before_and_after_the_last_bit() {
-        let page = outcome(&first_page(&[0; WORDS]), &[0; 20]);
-        for (index, cell) in (0..WORDS).flat_map(|index| (0..CELLS - 1).map(move |cell| (index, cell))) {
+        let page = outcome(&page_of(SMALL, 0), &[0; 20]);
+        for (index, cell) in (0..SMALL.words).flat_map(|index| (0..CELLS - 1).map(move |cell| (index, cell))) {
             let place = CELLS * index + cell;
             let pair = with_flip(with_flip(page.clone(), 24 + place), 24 + place + 1);
             let read = record_of(&pair);
@@ -473,7 +482,7 @@ mod tests {
     /// A word of even cells: its sum is too large, read or not. With a pair over every two cells it is accepted when read.
     #[test]
     fn sums_too_large() {
-        let page = outcome(&first_page(&[0; WORDS]), &[0; 20]);
+        let page = outcome(&page_of(SMALL, 0), &[0; 20]);
         let even = cells_with_sum(LARGEST_SUM);
         let full: Cells = [true; CELLS];
         for index in [0, 1, 2, 3, 4, 43] {
@@ -486,7 +495,7 @@ mod tests {
     /// A set cell 45 beside a read pair in cells 43 and 44, and a read pair in the last two cells.
     #[test]
     fn pairs_at_the_end_of_a_word() {
-        let values = with_value([0; WORDS], 0, 1);
+        let values = with_value(vec![0; SMALL.words], 0, 1);
         // 43 bits over one cell each, then a bit over two.
         let beside = outcome(&first_page(&values), &[0, 0, 0, 0, 0, 0x10]);
         assert_eq!(words_of(&beside)[0][42..], [false, true, true, true]);
@@ -501,7 +510,7 @@ mod tests {
     /// "5 for a state other than 09", and the other operations refuse state 09 by 5.
     #[test]
     fn pages_of_other_states() {
-        let first = first_page(&[SPARSE_VALUE; WORDS]);
+        let first = page_of(SMALL, SPARSE_VALUE);
         let page = outcome(&first, &[]);
         for state in 0..=255 {
             let other = with_byte(first.clone(), 0, state);
@@ -520,5 +529,53 @@ mod tests {
         assert_eq!(read_second(&page, &mut []), Err(Refusal::STATE));
         assert_eq!(read_first(&page, &mut [0; 176]), Err(Refusal::STATE));
         assert_eq!(write_first(&mut page.clone(), &[0; 176]), Err(Refusal::NOT_BLANK));
+    }
+
+    /// "for Inspect still not 256": every page of 512 bytes is refused 1, in every state, whatever else would be refused,
+    /// and what the code would leave there as well. Nothing is written.
+    #[test]
+    fn pages_of_512_bytes() {
+        let first = page_of(LARGE, SPARSE_VALUE);
+        let pages = [
+            filled_page(&first),
+            second_page(&first, &[0x96; 165]),
+            large_inspect(&first, &[0x96; 126]),
+            large_inspect(&first, &[]),
+            [&inspect_page(&page_of(SMALL, 0), &[0; 247])[..], &[0; 256]].concat(),
+            [&page_of(SMALL, 0)[..], &[0xFF; 256]].concat(),
+            vec![0; 512],
+            first,
+        ];
+        for (page, state) in pages.into_iter().flat_map(|page| (0..=255).map(move |state| (page.clone(), state))) {
+            let page = with_byte(page, 0, state);
+            for length in [0, 126, 600] {
+                let (mut written, mut output) = (page.clone(), vec![0xA5; length]);
+                assert_eq!(write_inspect(&mut written, &vec![0x96; length]), Err(Refusal::PAGE_LENGTH));
+                assert_eq!(read_inspect(&page, &mut output), Err(Refusal::PAGE_LENGTH));
+                assert_eq!((written, output), (page.clone(), vec![0xA5; length]));
+            }
+        }
+    }
+
+    /// The first 256 bytes of a larger page are a page of 256 bytes.
+    #[test]
+    fn a_large_page_that_is_cut() {
+        let first = page_of(LARGE, 77);
+        assert_eq!(outcome(&first[..256], &[0x96; 126]), inspect_page(&page_of(SMALL, 77), &[0x96; 126]));
+        assert_eq!(large_inspect(&first, &[0x96; 126])[..256], inspect_page(&page_of(SMALL, 77), &[0x96; 126]));
+    }
+
+    /// "5 for a state other than 09": the other operations refuse state 09 on 512 bytes as well.
+    #[test]
+    fn state_09_on_512_bytes() {
+        for length in [0, 60, 247] {
+            let page = large_inspect(&page_of(LARGE, 0), &vec![0; length]);
+            assert_eq!(page_capacity(&page), Err(Refusal::STATE));
+            assert_eq!(fill_page(&mut page.clone()), Err(Refusal::STATE));
+            assert_eq!(write_second(&mut page.clone(), &[]), Err(Refusal::STATE));
+            assert_eq!(read_second(&page, &mut []), Err(Refusal::STATE));
+            assert_eq!(read_first(&page, &mut [0; 352]), Err(Refusal::STATE));
+            assert_eq!(write_first(&mut page.clone(), &[0; 352]), Err(Refusal::NOT_BLANK));
+        }
     }
 }

@@ -1,9 +1,11 @@
 //! The listing of document 01, with the kind of Change 2 and the state of Change 7, as a function from bytes to text;
-//! and what the gain sheet goes by as well: the pieces of the input, and the kind and the number of each.
+//! and what the gain sheet goes by as well: the pieces of the input, and the kind and the number of each. By Change 8 both
+//! "stay with 256 bytes".
 
 use crate::answer::Answer;
 use crate::inspect::{read_inspect, INSPECT_BYTES_MOST};
-use crate::page::{self, BLANK, FILLED, FIRST_ROUND, INSPECTED, PAGE_BYTES, SECOND_BYTES_MOST, SECOND_ROUND};
+use crate::page::{self, BLANK, FILLED, FIRST_ROUND, INSPECTED, SECOND_ROUND};
+use crate::shape::SMALL;
 use std::fmt::{self, Display, Formatter};
 
 /// "stops after 4,096 pages".
@@ -68,7 +70,7 @@ fn accepted(kind: Kind, answer: Answer) -> Described {
 
 /// The kind and the number of one piece of the input.
 pub fn described(piece: &[u8]) -> Described {
-    if piece.len() < PAGE_BYTES {
+    if piece.len() < SMALL.bytes {
         return bad(1);
     }
     match piece[0] {
@@ -76,7 +78,7 @@ pub fn described(piece: &[u8]) -> Described {
         BLANK => bad(4),
         FIRST_ROUND => accepted(Kind::First, page::page_capacity(piece)),
         FILLED => accepted(Kind::Filled, page::page_capacity(piece)),
-        SECOND_ROUND => accepted(Kind::Second, page::read_second(piece, &mut [0; SECOND_BYTES_MOST])),
+        SECOND_ROUND => accepted(Kind::Second, page::read_second(piece, &mut [0; SMALL.second_bytes_most])),
         // "The listing and the gain sheet count state 09 as second."
         INSPECTED => accepted(Kind::Second, read_inspect(piece, &mut [0; INSPECT_BYTES_MOST])),
         _ => bad(5),
@@ -85,7 +87,7 @@ pub fn described(piece: &[u8]) -> Described {
 
 /// The input "as pages, one after another", at most 4,096; the last piece may be shorter than a page.
 pub fn pieces(input: &[u8]) -> impl Iterator<Item = &[u8]> {
-    input.chunks(PAGE_BYTES).take(PAGES_MOST)
+    input.chunks(SMALL.bytes).take(PAGES_MOST)
 }
 
 /// "For each page it prints one line: page index from 0, a space, the kind, a space, a number, a line feed."
@@ -100,15 +102,15 @@ mod tests {
 
     #[test]
     fn a_blank_page_and_a_page_of_176_zero_bytes() {
-        let mut input = vec![0; 2 * PAGE_BYTES];
-        page::write_first(&mut input[PAGE_BYTES..], &[0; 176]).unwrap();
+        let mut input = vec![0; 2 * SMALL.bytes];
+        page::write_first(&mut input[SMALL.bytes..], &[0; 176]).unwrap();
         assert_eq!(listing(&input), "0 blank 0\n1 first 1012\n");
     }
 
     /// "the kind `filled` with its capacity, and `bad` there has page capacity's 6 or 7"; 5 is left to other states.
     #[test]
     fn filled_pages() {
-        let mut filled = vec![0; PAGE_BYTES];
+        let mut filled = vec![0; SMALL.bytes];
         page::write_first(&mut filled, &[0; 176]).unwrap();
         page::fill_page(&mut filled).unwrap();
         for (place, byte, line) in [
@@ -129,7 +131,7 @@ mod tests {
     /// set 43. Versions before Change 6 set cell 45 as well.
     #[test]
     fn filled_pages_that_end_in_cell_43() {
-        let mut filled = vec![0; PAGE_BYTES];
+        let mut filled = vec![0; SMALL.bytes];
         page::write_first(&mut filled, &[0, 0, 0, 3].repeat(44)).unwrap();
         page::fill_page(&mut filled).unwrap();
         assert_eq!(filled[255], 0b1010_0100);
@@ -150,7 +152,7 @@ mod tests {
     /// "The listing and the gain sheet count state 09 as second", with the length; `bad` there has the reader's 6, 7 or 9.
     #[test]
     fn pages_of_the_inspect_code() {
-        let mut first = vec![0; PAGE_BYTES];
+        let mut first = vec![0; SMALL.bytes];
         page::write_first(&mut first, &[0; 176]).unwrap();
         for (length, line) in
             [(0, "0 second 0\n"), (126, "0 second 126\n"), (127, "0 second 127\n"), (247, "0 second 247\n")]
@@ -160,7 +162,7 @@ mod tests {
             assert_eq!(listing(&piece), line);
         }
         // With cells 0, 3, 6 and so on up to 45 in each word, 1,320 zeros are read.
-        let mut sparse = vec![0; PAGE_BYTES];
+        let mut sparse = vec![0; SMALL.bytes];
         page::write_first(&mut sparse, &3_889_371_024_u32.to_be_bytes().repeat(44)).unwrap();
         sparse[0] = 0x09;
         for (place, byte, line) in [
@@ -179,6 +181,24 @@ mod tests {
         }
     }
 
+    /// A page of 512 bytes is two pieces: its first 256 bytes have the first 44 words of it, and the rest starts with cells
+    /// of word 44, of which a few look like a state.
+    #[test]
+    fn a_page_of_512_bytes_is_two_pieces() {
+        let mut page = vec![0; 512];
+        page::write_first(&mut page, &[0; 352]).unwrap();
+        assert_eq!(listing(&page), "0 first 1012\n1 blank 0\n");
+        page::fill_page(&mut page).unwrap();
+        assert_eq!(listing(&page), "0 filled 1012\n1 bad 5\n");
+        page::write_second(&mut page, &[0; 253]).unwrap();
+        assert_eq!(listing(&page), "0 bad 6\n1 bad 5\n");
+        // Cell 7 of word 44 is the lowest bit of byte 256.
+        let mut page = vec![0; 512];
+        page::write_first(&mut page, &[&[0; 176][..], &[0x06, 0x19, 0x7E, 0xCB], &[0; 172]].concat()).unwrap();
+        assert_eq!(page[256..], [&[1][..], &[0; 255]].concat());
+        assert_eq!(listing(&page), "0 first 1012\n1 first 1012\n");
+    }
+
     #[test]
     fn empty_input_prints_nothing() {
         assert_eq!(listing(&[]), "");
@@ -186,7 +206,7 @@ mod tests {
 
     #[test]
     fn stops_after_4096_pages() {
-        let text = listing(&[0; PAGES_MOST * PAGE_BYTES + 1]);
+        let text = listing(&[0; PAGES_MOST * SMALL.bytes + 1]);
         assert!(text.ends_with("\n4095 blank 0\n"));
     }
 }

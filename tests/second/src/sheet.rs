@@ -30,12 +30,12 @@ mod tests {
     use super::*;
     use crate::cases::inspect::inspect_page;
     use crate::cases::pages::{
-        any_page, filled_page, first_page, second_page, with_byte, with_data_cell, with_word, written_over, FILLINGS,
+        any_page, filled_page, page_of, second_page, with_byte, with_data_cell, with_word, written_over, FILLINGS,
     };
     use crate::cases::words::SPARSE_VALUE;
     use crate::listing::{listing, PAGES_MOST};
-    use crate::page::{PAGE_BYTES, WORDS};
     use crate::random::Random;
+    use crate::shape::{LARGE, SMALL};
     use crate::word::CELLS;
 
     const NOTHING: &str = "pages 0 blank 0 first 0 filled 0 second 0 bad 0 gain 0\n";
@@ -43,12 +43,12 @@ mod tests {
 
     /// The first-round page of 176 zero bytes.
     fn most() -> Vec<u8> {
-        first_page(&[0; WORDS])
+        page_of(SMALL, 0)
     }
 
     #[test]
     fn the_listing_example() {
-        let input = [vec![0; PAGE_BYTES], most()].concat();
+        let input = [vec![0; SMALL.bytes], most()].concat();
         assert_eq!(sheet(&input), "pages 2 blank 1 first 1 filled 0 second 0 bad 0 gain -640\n");
     }
 
@@ -64,7 +64,7 @@ mod tests {
             assert_eq!(sheet(&[state]), ONE_BAD);
         }
         let second = second_page(&most(), &[0x96; 126]);
-        for page in [vec![0; PAGE_BYTES], most(), filled_page(&most()), second] {
+        for page in [vec![0; SMALL.bytes], most(), filled_page(&most()), second] {
             for length in [1, 2, 3, 128, 255] {
                 assert_eq!(sheet(&page[..length]), ONE_BAD);
             }
@@ -73,14 +73,14 @@ mod tests {
 
     #[test]
     fn a_blank_page() {
-        assert_eq!(sheet(&[0; PAGE_BYTES]), "pages 1 blank 1 first 0 filled 0 second 0 bad 0 gain 0\n");
+        assert_eq!(sheet(&[0; SMALL.bytes]), "pages 1 blank 1 first 0 filled 0 second 0 bad 0 gain 0\n");
     }
 
     /// The capacity is not in the gain.
     #[test]
     fn first_round_and_filled_pages() {
         for value in [0, 1, 3, 77, SPARSE_VALUE] {
-            let first = first_page(&[value; WORDS]);
+            let first = page_of(SMALL, value);
             assert_eq!(sheet(&first), "pages 1 blank 0 first 1 filled 0 second 0 bad 0 gain -640\n");
             for filled in FILLINGS.map(|fill| fill(&first)) {
                 assert_eq!(sheet(&filled), "pages 1 blank 0 first 0 filled 1 second 0 bad 0 gain -640\n");
@@ -102,8 +102,8 @@ mod tests {
     #[test]
     fn second_round_pages() {
         for (length, gain) in [(0, -640), (1, -632), (79, -8), (80, 0), (81, 8), (82, 16)] {
-            check_second(&first_page(&[SPARSE_VALUE; WORDS]), length, gain);
-            check_second(&first_page(&[3; WORDS]), length, gain);
+            check_second(&page_of(SMALL, SPARSE_VALUE), length, gain);
+            check_second(&page_of(SMALL, 3), length, gain);
             check_second(&most(), length, gain);
         }
         check_second(&most(), 126, 368);
@@ -129,7 +129,7 @@ mod tests {
 
     #[test]
     fn bad_pages_of_the_inspect_code() {
-        let (page, sparse) = (inspect_page(&most(), &[0; 80]), first_page(&[SPARSE_VALUE; WORDS]));
+        let (page, sparse) = (inspect_page(&most(), &[0; 80]), page_of(SMALL, SPARSE_VALUE));
         let bad = [
             with_byte(page.clone(), 1, 248),
             with_byte(page.clone(), 2, 1),
@@ -147,7 +147,7 @@ mod tests {
         let filled = filled_page(&most());
         let second = second_page(&most(), &[0x96; 80]);
         let bad = [
-            with_byte(vec![0; PAGE_BYTES], 255, 1),
+            with_byte(vec![0; SMALL.bytes], 255, 1),
             with_byte(most(), 1, 1),
             with_byte(most(), 2, 1),
             with_word(most(), 43, [true; CELLS]),
@@ -160,7 +160,7 @@ mod tests {
             with_byte(second.clone(), 2, 1),
             with_word(second.clone(), 0, [false; CELLS]),
             with_byte(second.clone(), 1, 79),
-            with_byte(second_page(&first_page(&[SPARSE_VALUE; WORDS]), &[0; 82]), 1, 83),
+            with_byte(second_page(&page_of(SMALL, SPARSE_VALUE), &[0; 82]), 1, 83),
         ];
         for page in bad {
             assert_eq!(sheet(&page), ONE_BAD, "state {:02X}", page[0]);
@@ -196,6 +196,17 @@ mod tests {
         assert_eq!(sheet(&input[..input.len() - 1]), text);
     }
 
+    /// The sheet stays "with 256 bytes": a page of 512 bytes counts as two pieces.
+    #[test]
+    fn a_page_of_512_bytes_is_two_pieces() {
+        let first = page_of(LARGE, 0);
+        assert_eq!(sheet(&first), "pages 2 blank 1 first 1 filled 0 second 0 bad 0 gain -640\n");
+        assert_eq!(sheet(&filled_page(&first)), "pages 2 blank 0 first 0 filled 1 second 0 bad 1 gain -640\n");
+        // A record of 80 bytes of ones fills words 0 to 26 and a part of word 27.
+        let second = second_page(&first, &[0xFF; 80]);
+        assert_eq!(sheet(&second), "pages 2 blank 0 first 0 filled 0 second 1 bad 1 gain 0\n");
+    }
+
     /// "with a minus below 0 and no plus".
     #[test]
     fn the_sign_of_a_sum() {
@@ -219,11 +230,11 @@ mod tests {
     fn any_input() {
         let mut random = Random::new(8);
         for _ in 0..60 {
-            let pages: Vec<_> = (0..random.below(20)).map(|_| any_page(&mut random)).collect();
-            let extra = random.below(PAGE_BYTES);
+            let pages: Vec<_> = (0..random.below(20)).map(|_| any_page(&mut random, SMALL)).collect();
+            let extra = random.below(SMALL.bytes);
             let input = [pages.concat(), random.bytes(extra)].concat();
             let numbers = numbers(&sheet(&input));
-            assert_eq!(numbers[0], input.len().div_ceil(PAGE_BYTES) as i64);
+            assert_eq!(numbers[0], input.len().div_ceil(SMALL.bytes) as i64);
             assert_eq!(numbers[0], numbers[1..6].iter().sum::<i64>());
             assert_eq!(numbers[1..], by_the_listing(&listing(&input)));
         }

@@ -4,68 +4,75 @@ use super::files::{any_device, any_pages};
 use super::inspect::{self, bytes_taken, inspect_page, record_for, with_length_too_large, with_unsound_word};
 use super::lengths::{resized, wrong_data_length, wrong_page_length, wrong_pages_length};
 use super::pages::{
-    any_first, any_record, blank, filled_page, filled_page_earlier, first_and_record, most_bytes, with_data_cell,
-    with_flaw, with_word, written_over, Filling,
+    any_first, any_record, blank, filled_page, filled_page_earlier, first_and_record, header_places, most_bytes,
+    with_data_cell, with_flaw, with_word, written_over, Filling,
 };
 use super::words::{any_argument, any_value, illegal, sum_too_large, with_hole, with_neighbours, Hole};
 use crate::call::{Call, Entry};
 use crate::file::file_bytes;
 use crate::inspect::INSPECT_BYTES_MOST;
-use crate::page::{
-    data_cells_of, words_of, FILLED, FIRST_BYTES, FIRST_ROUND, INSPECTED, PAGE_BYTES, SECOND_BYTES_MOST, WORDS,
-};
+use crate::page::{data_cells_of, known_shape, longest_named, words_of, FILLED, FIRST_ROUND, INSPECTED};
 use crate::random::Random;
+use crate::shape::{Shape, SMALL};
 use crate::word::{cells_of, legal_word, number_of, CELLS};
 
-/// A call that is accepted.
-pub fn sound(random: &mut Random, entry: Entry) -> Call {
-    sound_by(random, entry, filled_page)
+/// A shape of the pages that the entry takes. For an entry without a page of its own it tells nothing.
+pub fn any_shape(random: &mut Random, entry: Entry) -> Shape {
+    match entry.shapes() {
+        [] => SMALL,
+        shapes => random.pick(shapes),
+    }
 }
 
-/// A call that is accepted, with a page made by this fill where it is a filled or a second-round page.
-fn sound_by(random: &mut Random, entry: Entry, fill: Filling) -> Call {
+/// A call that is accepted, with a page of this shape.
+pub fn sound(random: &mut Random, entry: Entry, shape: Shape) -> Call {
+    sound_by(random, entry, shape, filled_page)
+}
+
+/// A call that is accepted, with a page of this shape, made by this fill where it is a filled or a second-round page.
+fn sound_by(random: &mut Random, entry: Entry, shape: Shape, fill: Filling) -> Call {
     match entry {
         Entry::EncodeWord => Call::of_word(entry, u64::from(any_value(random))),
         Entry::DecodeWord | Entry::FillWord | Entry::WordCapacity => {
             Call::of_word(entry, number_of(&legal_word(any_value(random))))
         }
-        Entry::WriteFirst => Call::of_page(entry, blank(random), random.bytes(FIRST_BYTES)),
+        Entry::WriteFirst => Call::of_page(entry, blank(random, shape), random.bytes(shape.first_bytes)),
         Entry::ReadFirst => {
             let longer = random.below(3);
-            Call::of_page(entry, any_first(random), random.bytes(FIRST_BYTES + longer))
+            Call::of_page(entry, any_first(random, shape), random.bytes(shape.first_bytes + longer))
         }
-        Entry::PageCapacity if random.one_in(2) => Call::of_page(entry, any_first(random), Vec::new()),
+        Entry::PageCapacity if random.one_in(2) => Call::of_page(entry, any_first(random, shape), Vec::new()),
         Entry::PageCapacity => {
-            let first = any_first(random);
+            let first = any_first(random, shape);
             Call::of_page(entry, fill(&first), Vec::new()).filled_from(&first)
         }
-        Entry::FillPage => Call::of_page(entry, any_first(random), Vec::new()),
+        Entry::FillPage => Call::of_page(entry, any_first(random, shape), Vec::new()),
         Entry::WriteSecond => {
-            let first = any_first(random);
+            let first = any_first(random, shape);
             let page = fill(&first);
             let length = random.between(0, most_bytes(&page));
             Call::of_page(entry, page, any_record(random, length)).filled_from(&first)
         }
         Entry::ReadSecond => {
-            let (first, record) = first_and_record(random, 1);
+            let (first, record) = first_and_record(random, shape, 1);
             let page = written_over(fill(&first), &record);
             let length = record.len() + random.below(3);
             Call::of_page(entry, page, random.bytes(length)).filled_from(&first)
         }
         Entry::WriteInspect => {
-            let first = any_first(random);
+            let first = any_first(random, shape);
             let record = record_for(random, &first, 0);
             Call::of_page(entry, first, record)
         }
         Entry::ReadInspect => {
-            let first = any_first(random);
+            let first = any_first(random, shape);
             let record = record_for(random, &first, 1);
             let length = record.len() + random.below(3);
             Call::of_page(entry, inspect_page(&first, &record), random.bytes(length))
         }
         Entry::WriteFile => {
             let pages = any_pages(random);
-            let length = file_bytes(pages.len() / PAGE_BYTES) + random.below(3);
+            let length = file_bytes(pages.len() / SMALL.bytes) + random.below(3);
             Call::of_file(any_device(random), pages, random.bytes(length))
         }
     }
@@ -74,17 +81,23 @@ fn sound_by(random: &mut Random, entry: Entry, fill: Filling) -> Call {
 /// The least length of the output of a sound call.
 fn output_needed(call: &Call) -> usize {
     match call.entry {
-        Entry::ReadFirst => FIRST_BYTES,
-        Entry::WriteFile => file_bytes(call.page.len() / PAGE_BYTES),
+        Entry::ReadFirst => known_shape(&call.page).first_bytes,
+        Entry::WriteFile => file_bytes(call.page.len() / SMALL.bytes),
         _ => usize::from(call.page[1]),
     }
 }
 
-/// A wrong length of the page, or of the pages.
-fn resize_page(random: &mut Random, call: &mut Call, wrong: fn(&mut Random) -> usize) {
-    let length = wrong(random);
+/// Another length of the page, or of the pages.
+fn resize_page(random: &mut Random, call: &mut Call, length: usize) {
     let page = std::mem::take(&mut call.page);
     call.page = resized(random, page, length);
+}
+
+/// A byte of a blank page that is not 0: any, or one of those that 6 asks for in other states.
+fn set_byte(random: &mut Random, call: &mut Call) {
+    let any = random.below(call.page.len());
+    let of_header = random.pick(&header_places(known_shape(&call.page)));
+    call.page[random.pick(&[any, any, of_header])] = random.byte_from(1);
 }
 
 /// Any state but those that the entry asks for.
@@ -94,29 +107,19 @@ fn set_state(random: &mut Random, call: &mut Call) {
     call.page[0] = if call.entry.states().contains(&state) { !state } else { state };
 }
 
-/// The most that byte 1 may be on a page of the entry.
-fn longest_named(entry: Entry) -> usize {
-    match entry {
-        Entry::ReadSecond => SECOND_BYTES_MOST,
-        Entry::ReadInspect => INSPECT_BYTES_MOST,
-        _ => 0,
-    }
-}
-
-/// Byte 1 or byte 2 out of its range.
+/// One of the bytes that 6 asks for out of its range.
 fn set_header(random: &mut Random, call: &mut Call) {
-    if random.one_in(2) {
-        call.page[2] = random.byte_from(1);
-    } else {
-        call.page[1] = random.byte_from(longest_named(call.entry) as u8 + 1);
-    }
+    let shape = known_shape(&call.page);
+    let place = random.pick(&header_places(shape));
+    let most = if place == 1 { longest_named(shape, call.page[0]) } else { 0 };
+    call.page[place] = random.byte_from(most as u8 + 1);
 }
 
 /// A word that is not as the page's state asks for: not legal, not well formed, with a data cell set, or not legal with
 /// the read pairs put to 00.
 fn set_word(random: &mut Random, call: &mut Call) {
     let page = std::mem::take(&mut call.page);
-    let (index, hole) = (random.below(WORDS), random.pick(&Hole::ALL));
+    let (index, hole) = (random.below(known_shape(&page).words), random.pick(&Hole::ALL));
     call.page = match page[0] {
         FIRST_ROUND => with_word(page, index, illegal(random)),
         FILLED => with_flaw(random, page),
@@ -144,14 +147,15 @@ fn spoil_data_cells(random: &mut Random, call: &mut Call) {
         call.page = with_length_too_large(random, std::mem::take(&mut call.page));
         return;
     }
+    let shape = known_shape(&call.page);
     let found = data_cells_of(&words_of(&call.page)).len();
-    let fit = found / 8;
-    if fit < 126 && random.one_in(2) {
-        call.page[1] = random.between(fit + 1, 126) as u8;
+    let (fit, most) = (found / 8, shape.second_bytes_most);
+    if fit < most && random.one_in(2) {
+        call.page[1] = random.between(fit + 1, most) as u8;
         return;
     }
-    // A length of 82 at most leaves a spare data cell on every page.
-    call.page[1] = call.page[1].min(82);
+    // One byte less than what fits every page leaves spare data cells on every page.
+    call.page[1] = call.page[1].min(shape.second_bytes_sure() as u8 - 1);
     let page = std::mem::take(&mut call.page);
     let (first, any) = (8 * usize::from(page[1]), random.below(found));
     call.page = with_data_cell(page, random.pick(&[first, found - 1, any.max(first)]));
@@ -160,9 +164,12 @@ fn spoil_data_cells(random: &mut Random, call: &mut Call) {
 /// Damages a sound call so that it meets the condition of the refusal with this number.
 fn damage(random: &mut Random, call: &mut Call, number: u8) {
     match number {
-        1 => resize_page(random, call, wrong_page_length),
+        1 => {
+            let length = wrong_page_length(random, call.entry);
+            resize_page(random, call, length);
+        }
         2 => {
-            let length = wrong_data_length(random);
+            let length = wrong_data_length(random, known_shape(&call.page));
             call.other = random.bytes(length);
         }
         3 => {
@@ -170,7 +177,7 @@ fn damage(random: &mut Random, call: &mut Call, number: u8) {
             let any = random.below(needed);
             call.other.truncate(random.pick(&[0, needed - 1, any]));
         }
-        4 => call.page[random.below(PAGE_BYTES)] = random.byte_from(1),
+        4 => set_byte(random, call),
         5 => set_state(random, call),
         6 => set_header(random, call),
         7 => set_word(random, call),
@@ -182,19 +189,22 @@ fn damage(random: &mut Random, call: &mut Call, number: u8) {
             call.argument = number_of(&cells);
         }
         12 => call.argument = number_of(&sum_too_large(random)),
-        _ => resize_page(random, call, wrong_pages_length),
+        _ => {
+            let length = wrong_pages_length(random);
+            resize_page(random, call, length);
+        }
     }
 }
 
-/// A call that meets the conditions of the chosen refusals of its entry: bit k of `chosen` stands for the k-th in the
+/// A call over a page of this shape that meets the conditions of the chosen refusals of its entry: bit k of `chosen` stands for the k-th in the
 /// stated order. The last is brought about first, since an earlier one may hide what a later one needs.
-pub fn combined(random: &mut Random, entry: Entry, chosen: usize) -> Call {
-    combined_by(random, entry, chosen, filled_page)
+pub fn combined(random: &mut Random, entry: Entry, chosen: usize, shape: Shape) -> Call {
+    combined_by(random, entry, chosen, shape, filled_page)
 }
 
 /// The same over a page made by this fill, where it is a filled or a second-round page.
-pub fn combined_by(random: &mut Random, entry: Entry, chosen: usize, fill: Filling) -> Call {
-    let mut call = sound_by(random, entry, fill);
+pub fn combined_by(random: &mut Random, entry: Entry, chosen: usize, shape: Shape, fill: Filling) -> Call {
+    let mut call = sound_by(random, entry, shape, fill);
     for (place, &number) in entry.refusals().iter().enumerate().rev() {
         if chosen >> place & 1 == 1 {
             damage(random, &mut call, number);
@@ -208,13 +218,14 @@ pub fn choices(entry: Entry) -> usize {
     1 << entry.refusals().len()
 }
 
-/// A call with none, one or any of the conditions of its entry, over a page made by either fill.
+/// A call with none, one or any of the conditions of its entry, over a page of either size made by either fill.
 pub fn any_combined(random: &mut Random, entry: Entry) -> Call {
     let one = 1 << random.below(entry.refusals().len().max(1));
     let any = random.below(choices(entry));
     let chosen = random.pick(&[0, one, one, any]);
     let fill = random.pick::<Filling>(&[filled_page, filled_page, filled_page_earlier]);
-    combined_by(random, entry, chosen, fill)
+    let shape = any_shape(random, entry);
+    combined_by(random, entry, chosen, shape, fill)
 }
 
 /// A word call of any argument; encode word takes 32 bits of it.
@@ -227,16 +238,27 @@ pub fn any_word_call(random: &mut Random, entry: Entry) -> Call {
 mod tests {
     use super::*;
     use crate::answer::number;
-    use crate::cases::pages::FILLINGS;
+    use crate::cases::pages::{page_of, FILLINGS};
+    use crate::page::Words;
+    use crate::shape::LARGE;
     use crate::word::separators;
+    use std::collections::HashSet;
+
+    /// Every entry with each shape that it takes, or with one where it takes none, and with each fill.
+    fn every_making(entries: &[Entry]) -> Vec<(Entry, Shape, Filling)> {
+        let shapes = |entry: Entry| if entry.takes_page() { entry.shapes() } else { &[SMALL] };
+        let pairs = entries.iter().flat_map(|&entry| shapes(entry).iter().map(move |&shape| (entry, shape)));
+        pairs.flat_map(|(entry, shape)| FILLINGS.map(|fill| (entry, shape, fill))).collect()
+    }
 
     #[test]
     fn the_first_chosen_refusal_is_returned() {
         let mut random = Random::new(2);
-        for (entry, fill) in Entry::ALL.into_iter().flat_map(|entry| FILLINGS.map(|fill| (entry, fill))) {
+        for (entry, shape, fill) in every_making(&Entry::ALL) {
             for chosen in (0..choices(entry)).cycle().take(640) {
                 let expected = if chosen == 0 { 0 } else { entry.refusals()[chosen.trailing_zeros() as usize] };
-                let mut call = combined_by(&mut random, entry, chosen, fill);
+                let mut call = combined_by(&mut random, entry, chosen, shape, fill);
+                assert!(!entry.takes_page() || expected == 1 || call.page.len() == shape.bytes);
                 assert_eq!(number(call.perform()), expected, "{} {chosen}", entry.name());
             }
         }
@@ -246,13 +268,42 @@ mod tests {
     #[test]
     fn the_first_round_page_of_a_sound_call() {
         let mut random = Random::new(3);
-        for (entry, fill) in Entry::AFTER_THE_FILL.into_iter().flat_map(|entry| FILLINGS.map(|fill| (entry, fill))) {
-            for call in [(); 100].map(|()| sound_by(&mut random, entry, fill)) {
-                let without_data = words_of(&call.page).map(|cells| separators(&cells));
+        for (entry, shape, fill) in every_making(&Entry::AFTER_THE_FILL) {
+            for call in [(); 100].map(|()| sound_by(&mut random, entry, shape, fill)) {
+                let without_data: Words = words_of(&call.page).iter().map(separators).collect();
                 match call.first {
                     Some(first) => assert_eq!(words_of(&fill(&first)), without_data),
                     None => assert_eq!(call.page[0], FIRST_ROUND),
                 }
+            }
+        }
+    }
+
+    /// Each of the bytes that 6 asks for is out of its range by itself; on 512 bytes, bytes 509 to 511 too.
+    #[test]
+    fn every_header_byte_out_of_its_range() {
+        let mut random = Random::new(4);
+        for (shape, places) in [(SMALL, vec![1, 2]), (LARGE, vec![1, 2, 509, 510, 511])] {
+            let base = page_of(shape, 77);
+            let mut differing = |_| {
+                let mut call = Call::of_page(Entry::FillPage, base.clone(), Vec::new());
+                set_header(&mut random, &mut call);
+                (0..shape.bytes).filter(|&place| call.page[place] != base[place]).collect::<Vec<_>>()
+            };
+            let met: HashSet<Vec<usize>> = (0..200).map(&mut differing).collect();
+            assert_eq!(met, places.into_iter().map(|place| vec![place]).collect());
+        }
+    }
+
+    /// Of random calls of an entry, about half have pages of each size that it takes.
+    #[test]
+    fn both_sizes_have_their_share() {
+        let mut random = Random::new(5);
+        for entry in Entry::OF_PAGES {
+            let calls: Vec<Call> = (0..1_000).map(|_| any_combined(&mut random, entry)).collect();
+            for &shape in entry.shapes() {
+                let count = calls.iter().filter(|call| call.page.len() == shape.bytes).count();
+                assert!(count * entry.shapes().len() > 600, "{} {} {count}", entry.name(), shape.bytes);
             }
         }
     }

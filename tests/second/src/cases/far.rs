@@ -4,15 +4,16 @@ use super::damage::{combined, sound};
 use super::files::{any_device, any_pages};
 use super::inspect::{inspect_page, RECORDS};
 use super::lengths::resized;
-use super::pages::{any_first, filled_page, first_page, second_page};
+use super::pages::{any_first, filled_page, page_of, second_page};
 use super::words::SPARSE_VALUE;
 use crate::answer::Answer;
 use crate::call::{Call, Entry};
 use crate::file::{file_bytes, FILE_PAGES_MOST};
 use crate::inspect::INSPECT_BYTES_MOST;
 use crate::memory::FAR_BYTES;
-use crate::page::{FIRST_BYTES, PAGE_BYTES, SECOND_BYTES_MOST, WORDS};
+use crate::page::known_shape;
 use crate::random::Random;
+use crate::shape::{Shape, SMALL};
 
 const SEED: u64 = 2_024;
 
@@ -26,7 +27,7 @@ const HIGH_PARTS: [usize; 6] = [1 << 8, 1 << 16, 1 << 31, 1 << 32, 1 << 40, 1 <<
 const OTHER_LENGTHS: [usize; 4] = [1 << 20, (1 << 32) - 1, 1 << 32, FAR_BYTES - 4_096];
 
 /// Record lengths of which 8 times, cut to 31, 32, 63 or 64 bits, fits a page, or is below 0.
-const WRAPPED_LENGTHS: [usize; 9] = [
+const WRAPPED_LENGTHS: [usize; 11] = [
     (1 << 28) + 20,
     (1 << 29) + 20,
     (1 << 60) + 20,
@@ -34,6 +35,8 @@ const WRAPPED_LENGTHS: [usize; 9] = [
     (1 << 61) + 1,
     (1 << 61) + 82,
     (1 << 61) + 126,
+    (1 << 61) + 165,
+    (1 << 61) + 253,
     (1 << 62) + 20,
     isize::MAX as usize,
 ];
@@ -43,7 +46,7 @@ const WRAPPED_LENGTHS: [usize; 9] = [
 const PAGES_HIGH_PARTS: [usize; 8] = [1 << 16, 1 << 24, 1 << 31, 1 << 32, 1 << 40, 1 << 45, 1 << 56, 1 << 62];
 
 /// The low parts of lengths of pages: none, a part of a page, one page, and the most.
-const PAGES_LOW_PARTS: [usize; 4] = [0, 1, PAGE_BYTES, FILE_PAGES_MOST * PAGE_BYTES];
+const PAGES_LOW_PARTS: [usize; 4] = [0, 1, SMALL.bytes, FILE_PAGES_MOST * SMALL.bytes];
 
 /// The longest that memory can be, and the longest of whole pages.
 const LONGEST: [usize; 2] = [isize::MAX as usize, isize::MAX as usize - 255];
@@ -73,7 +76,7 @@ impl FarCall {
     pub fn touched(&self, answer: Answer) -> usize {
         match (self.near.entry, answer) {
             (Entry::WriteInspect, _) if self.page.is_none() => self.near.other.len(),
-            (Entry::ReadFirst, Ok(_)) => FIRST_BYTES,
+            (Entry::ReadFirst, Ok(_)) => known_shape(&self.near.page).first_bytes,
             (Entry::ReadSecond | Entry::ReadInspect | Entry::WriteFile, Ok(length)) => length as usize,
             _ => 0,
         }
@@ -91,24 +94,42 @@ fn far_pages_lengths() -> Vec<usize> {
     parts.chain(OTHER_LENGTHS).chain(LONGEST).collect()
 }
 
+/// The far lengths of a page that the entry refuses; cut to fewer bits, they are the lengths of pages.
+fn far_page_lengths(entry: Entry) -> Vec<usize> {
+    let parts = HIGH_PARTS.into_iter().flat_map(|high| Shape::BOTH.map(|shape| high + shape.bytes));
+    let taken = |length: usize| entry.shapes().iter().any(|shape| shape.bytes == length);
+    parts.chain(OTHER_LENGTHS).filter(|&length| !taken(length)).collect()
+}
+
 /// The low part that would change the answer for the entry's other buffer.
-fn low_part(entry: Entry) -> usize {
+fn low_part(entry: Entry, shape: Shape) -> usize {
     match entry {
-        Entry::WriteFirst => FIRST_BYTES,
+        Entry::WriteFirst => shape.first_bytes,
         Entry::WriteSecond | Entry::WriteInspect => 20,
         _ => 0,
     }
 }
 
 /// A length of the entry's other buffer with which the answer is that of a far one.
-fn near_length(entry: Entry) -> usize {
+fn near_length(entry: Entry, shape: Shape) -> usize {
     match entry {
-        Entry::WriteFirst => FIRST_BYTES + 1,
-        Entry::WriteSecond => SECOND_BYTES_MOST + 1,
+        Entry::WriteFirst => shape.first_bytes + 1,
+        Entry::WriteSecond => shape.second_bytes_most + 1,
         Entry::WriteInspect => INSPECT_BYTES_MOST + MOVED_AT_ONCE,
         Entry::ReadInspect => INSPECT_BYTES_MOST,
-        _ => FIRST_BYTES,
+        _ => shape.first_bytes,
     }
+}
+
+/// The far lengths of the entry's other buffer, with a page of this shape.
+fn far_other_lengths(entry: Entry, shape: Shape) -> Vec<usize> {
+    let lengths = far_lengths(low_part(entry, shape)).into_iter();
+    lengths.filter(|&length| length >= near_length(entry, shape)).collect()
+}
+
+/// Each of the entries with each shape that it takes.
+fn with_shapes(entries: &[Entry]) -> impl Iterator<Item = (Entry, Shape)> + '_ {
+    entries.iter().flat_map(|&entry| entry.shapes().iter().map(move |&shape| (entry, shape)))
 }
 
 /// None of the entry's refusals, and each by itself but those for the other buffer's length: choices for `combined`.
@@ -126,11 +147,12 @@ struct Walk {
 /// All calls with far lengths.
 pub fn calls() -> Vec<FarCall> {
     let mut walk = Walk { random: Random::new(SEED), calls: Vec::new() };
-    Entry::OF_PAGES.into_iter().for_each(|entry| walk.pages(entry));
-    Entry::WITH_OTHER.into_iter().for_each(|entry| walk.others(entry));
-    Entry::WITH_OTHER.into_iter().for_each(|entry| walk.both(entry));
-    walk.outputs();
-    walk.records();
+    with_shapes(&Entry::OF_PAGES).for_each(|(entry, shape)| walk.pages(entry, shape));
+    with_shapes(&Entry::WITH_OTHER).for_each(|(entry, shape)| walk.others(entry, shape));
+    with_shapes(&Entry::WITH_OTHER).for_each(|(entry, shape)| walk.both(entry, shape));
+    Shape::BOTH.into_iter().for_each(|shape| walk.second_outputs(shape));
+    walk.inspect_outputs();
+    Shape::BOTH.into_iter().for_each(|shape| walk.records(shape));
     walk.file_pages();
     [0, 1, FILE_PAGES_MOST].into_iter().for_each(|count| walk.file_outputs(count));
     walk.refused_file_outputs();
@@ -140,59 +162,63 @@ pub fn calls() -> Vec<FarCall> {
 
 impl Walk {
     /// A sound call but for its page, which is one byte too long.
-    fn long_page(&mut self, entry: Entry) -> Call {
-        let call = sound(&mut self.random, entry);
-        Call { page: resized(&mut self.random, call.page.clone(), PAGE_BYTES + 1), ..call }
+    fn long_page(&mut self, entry: Entry, shape: Shape) -> Call {
+        let call = sound(&mut self.random, entry, shape);
+        Call { page: resized(&mut self.random, call.page.clone(), shape.bytes + 1), ..call }
     }
 
     /// Pages of every far length.
-    fn pages(&mut self, entry: Entry) {
-        for length in far_lengths(PAGE_BYTES) {
-            let near = self.long_page(entry);
+    fn pages(&mut self, entry: Entry, shape: Shape) {
+        for length in far_page_lengths(entry) {
+            let near = self.long_page(entry, shape);
             self.calls.push(FarCall { near, page: Some(length), other: None });
         }
     }
 
     /// A call that meets these conditions, with the other buffer of every far length.
-    fn others_with(&mut self, entry: Entry, chosen: usize) {
-        for length in far_lengths(low_part(entry)) {
-            let call = combined(&mut self.random, entry, chosen);
-            let near = Call { other: self.random.bytes(near_length(entry)), ..call };
+    fn others_with(&mut self, entry: Entry, shape: Shape, chosen: usize) {
+        for length in far_other_lengths(entry, shape) {
+            let call = combined(&mut self.random, entry, chosen, shape);
+            let near = Call { other: self.random.bytes(near_length(entry, shape)), ..call };
             self.calls.push(FarCall { near, page: None, other: Some(length) });
         }
     }
 
     /// Data, records and outputs of every far length, over sound pages and pages that are refused for any reason.
-    fn others(&mut self, entry: Entry) {
-        single_choices(entry).into_iter().for_each(|chosen| self.others_with(entry, chosen));
+    fn others(&mut self, entry: Entry, shape: Shape) {
+        single_choices(entry).into_iter().for_each(|chosen| self.others_with(entry, shape, chosen));
     }
 
     /// A page and the other buffer of far lengths.
-    fn both(&mut self, entry: Entry) {
+    fn both(&mut self, entry: Entry, shape: Shape) {
         for high in [1 << 16, 1 << 32, 1 << 40] {
-            let near = self.long_page(entry);
-            let (page, other) = (Some(high + PAGE_BYTES), Some(high + low_part(entry)));
+            let near = self.long_page(entry, shape);
+            let (page, other) = (Some(high + shape.bytes), Some(high + low_part(entry, shape)));
             self.calls.push(FarCall { near, page, other });
         }
     }
 
-    /// Outputs of every far length for records of the least, a middle and the greatest length by each code.
-    fn outputs(&mut self) {
-        let first = first_page(&[0; WORDS]);
-        for record in [0, 1, 82, 126] {
-            let second = second_page(&first, &self.random.bytes(record));
+    /// Outputs of every far length for records by the fill code of the least, a middle and the greatest length.
+    fn second_outputs(&mut self, shape: Shape) {
+        for record in [0, 1, shape.second_bytes_sure(), shape.second_bytes_most] {
+            let second = second_page(&page_of(shape, 0), &self.random.bytes(record));
             self.outputs_of(Entry::ReadSecond, &second);
         }
+    }
+
+    /// The same for records by the Inspect code.
+    fn inspect_outputs(&mut self) {
         for record in [0, 1, 126, INSPECT_BYTES_MOST] {
             let zeros = vec![0; record];
-            self.outputs_of(Entry::ReadInspect, &inspect_page(&first, &zeros));
+            self.outputs_of(Entry::ReadInspect, &inspect_page(&page_of(SMALL, 0), &zeros));
         }
     }
 
     /// Outputs of every far length for the record of this page.
     fn outputs_of(&mut self, entry: Entry, page: &[u8]) {
-        for length in far_lengths(low_part(entry)) {
-            let output = self.random.bytes(near_length(entry));
+        let shape = known_shape(page);
+        for length in far_other_lengths(entry, shape) {
+            let output = self.random.bytes(near_length(entry, shape));
             let near = Call::of_page(entry, page.to_vec(), output);
             self.calls.push(FarCall { near, page: None, other: Some(length) });
         }
@@ -201,18 +227,20 @@ impl Walk {
     /// Records of each kind of which 8 times the length is cut, over this page.
     fn records_over(&mut self, entry: Entry, page: &[u8]) {
         for (turn, length) in WRAPPED_LENGTHS.into_iter().enumerate() {
-            let record = RECORDS[turn % RECORDS.len()](&mut self.random, near_length(entry));
+            let record = RECORDS[turn % RECORDS.len()](&mut self.random, near_length(entry, known_shape(page)));
             let near = Call::of_page(entry, page.to_vec(), record);
             self.calls.push(FarCall { near, page: None, other: Some(length) });
         }
     }
 
-    /// Such records over the least, the most and a middle capacity, by each code.
-    fn records(&mut self) {
-        let any = any_first(&mut self.random);
-        for first in [first_page(&[SPARSE_VALUE; WORDS]), first_page(&[0; WORDS]), any] {
+    /// Such records over the least, the most and a middle capacity, by each code that the size has.
+    fn records(&mut self, shape: Shape) {
+        let any = any_first(&mut self.random, shape);
+        for first in [page_of(shape, SPARSE_VALUE), page_of(shape, 0), any] {
             self.records_over(Entry::WriteSecond, &filled_page(&first));
-            self.records_over(Entry::WriteInspect, &first);
+            if Entry::WriteInspect.shapes().contains(&shape) {
+                self.records_over(Entry::WriteInspect, &first);
+            }
         }
     }
 
@@ -228,7 +256,7 @@ impl Walk {
     fn file_pages(&mut self) {
         for length in far_pages_lengths() {
             for output in [0, file_bytes(FILE_PAGES_MOST)] {
-                let near = self.file(FILE_PAGES_MOST * PAGE_BYTES + 1, output);
+                let near = self.file(FILE_PAGES_MOST * SMALL.bytes + 1, output);
                 self.calls.push(FarCall { near, page: Some(length), other: None });
             }
         }
@@ -239,14 +267,14 @@ impl Walk {
         let exact = file_bytes(count);
         let lengths = [0, exact - 1].into_iter().flat_map(far_lengths).filter(|&length| length >= exact);
         for length in lengths {
-            let near = self.file(PAGE_BYTES * count, exact);
+            let near = self.file(SMALL.bytes * count, exact);
             self.calls.push(FarCall { near, page: None, other: Some(length) });
         }
     }
 
     /// Outputs of every far length for pages that are refused.
     fn refused_file_outputs(&mut self) {
-        for pages_length in [PAGE_BYTES - 1, (FILE_PAGES_MOST + 1) * PAGE_BYTES] {
+        for pages_length in [SMALL.bytes - 1, (FILE_PAGES_MOST + 1) * SMALL.bytes] {
             for length in far_lengths(0).into_iter().chain(LONGEST) {
                 let near = self.file(pages_length, 0);
                 self.calls.push(FarCall { near, page: None, other: Some(length) });
@@ -257,8 +285,8 @@ impl Walk {
     /// Pages and an output of far lengths.
     fn file_pages_and_outputs(&mut self) {
         for high in [1 << 16, 1 << 32, 1 << 40] {
-            let near = self.file(FILE_PAGES_MOST * PAGE_BYTES + 1, 0);
-            let (page, other) = (Some(high + PAGE_BYTES), Some(high + file_bytes(1)));
+            let near = self.file(FILE_PAGES_MOST * SMALL.bytes + 1, 0);
+            let (page, other) = (Some(high + SMALL.bytes), Some(high + file_bytes(1)));
             self.calls.push(FarCall { near, page, other });
         }
     }
@@ -289,13 +317,33 @@ mod tests {
         assert!(calls().iter().all(|far| far.page_length().max(far.other_length()) >= 256));
     }
 
-    /// "1 if the page is not 256 bytes", and 13 when the pages' bytes "exceed 64 pages".
+    /// "Refusal 1 now means neither 256 nor 512 bytes", and 13 when the pages' bytes "exceed 64 pages".
     #[test]
     fn a_far_page_is_refused_1_and_far_pages_13() {
         for (far, answer) in answered().into_iter().filter(|(far, _)| far.page.is_some()) {
             let wanted = if far.near.entry == Entry::WriteFile { 13 } else { 1 };
             assert_eq!(number(answer), wanted, "{}", far.near.entry.name());
             assert!(far.page_length() > if wanted == 13 { 16_384 } else { 256 });
+        }
+    }
+
+    /// Each entry over pages of each size that it takes.
+    #[test]
+    fn both_sizes() {
+        let calls = calls();
+        for (entry, shape) in with_shapes(&Entry::WITH_OTHER) {
+            let of_entry = calls.iter().filter(|far| far.near.entry == entry && far.page.is_none());
+            let count = of_entry.filter(|far| far.near.page.len() == shape.bytes).count();
+            assert!(count >= 10, "{} {} {count}", entry.name(), shape.bytes);
+        }
+    }
+
+    /// 512 is a far length for the entries of the Inspect code alone.
+    #[test]
+    fn a_page_of_512_bytes_that_cannot_be_touched() {
+        for entry in Entry::OF_PAGES {
+            let met = calls().iter().any(|far| far.near.entry == entry && far.page == Some(512));
+            assert_eq!(met, Entry::OF_INSPECT.contains(&entry), "{}", entry.name());
         }
     }
 
@@ -349,15 +397,16 @@ mod tests {
     fn lengths_that_look_otherwise_in_32_bits() {
         let low = |length: usize| length as u32 as usize;
         let records = [(Entry::WriteSecond, 20), (Entry::WriteInspect, 20)];
-        let others = [(Entry::WriteFirst, FIRST_BYTES), (Entry::ReadFirst, 0), (Entry::ReadInspect, 0)];
+        let first = Shape::BOTH.map(|shape| (Entry::WriteFirst, shape.first_bytes));
+        let others = first.into_iter().chain([(Entry::ReadFirst, 0), (Entry::ReadSecond, 0), (Entry::ReadInspect, 0)]);
         for (entry, wanted) in records.into_iter().chain(others) {
             let of_entry = |far: &FarCall| far.near.entry == entry && far.page.is_none();
             let met =
                 |far: FarCall| of_entry(&far) && far.other_length() > 1 << 32 && low(far.other_length()) == wanted;
             assert!(calls().into_iter().any(met), "{}", entry.name());
         }
-        for entry in Entry::OF_PAGES {
-            let met = |far: FarCall| far.near.entry == entry && far.page == Some((1 << 32) + PAGE_BYTES);
+        for (entry, bytes) in Entry::OF_PAGES.into_iter().flat_map(|entry| [(entry, 256), (entry, 512)]) {
+            let met = |far: FarCall| far.near.entry == entry && far.page == Some((1 << 32) + bytes);
             assert!(calls().into_iter().any(met), "{}", entry.name());
         }
     }
@@ -381,9 +430,10 @@ mod tests {
     /// 8 times the length fits the least capacity in each number of bits.
     #[test]
     fn lengths_of_which_8_times_is_cut() {
-        for (bits, wanted) in [(31, (1 << 28) + 20), (32, (1 << 29) + 20), (64, (1 << 61) + 82)] {
+        let both = [(31, (1 << 28) + 20, 160), (32, (1 << 29) + 20, 160), (64, (1 << 61) + 82, 656)];
+        for (bits, wanted, left) in both.into_iter().chain([(64, (1 << 61) + 165, 1_320), (64, (1 << 61) + 253, 2_024)]) {
             assert!(WRAPPED_LENGTHS.contains(&wanted));
-            assert!(8 * (wanted as u128) % (1 << bits) <= 660, "{bits} bits");
+            assert_eq!(8 * (wanted as u128) % (1 << bits), left, "{bits} bits");
         }
     }
 }

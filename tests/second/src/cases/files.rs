@@ -1,11 +1,11 @@
 //! Device numbers and pages for the calls of write file.
 
 use super::lengths::{other_length, wrong_pages_length};
-use super::pages::{any_first, any_page, any_record};
+use super::pages::{any_first, any_page, any_record, Maker};
 use crate::call::{Call, Entry};
 use crate::file::FILE_PAGES_MOST;
-use crate::page::PAGE_BYTES;
 use crate::random::Random;
+use crate::shape::SMALL;
 
 /// Device numbers at the ends, and one of four different bytes.
 pub const DEVICES: [u32; 5] = [0, 1, 0x0102_0304, 0x8000_0000, u32::MAX];
@@ -32,11 +32,11 @@ pub fn any_bytes(random: &mut Random, length: usize) -> Vec<u8> {
 
 /// Pages that differ from each other in each place.
 pub fn numbered(_: &mut Random, length: usize) -> Vec<u8> {
-    (0..length).map(|place| (place % PAGE_BYTES * 29 + place / PAGE_BYTES * 101) as u8).collect()
+    (0..length).map(|place| (place % SMALL.bytes * 29 + place / SMALL.bytes * 101) as u8).collect()
 }
 
-fn pages_of(random: &mut Random, length: usize, page: fn(&mut Random) -> Vec<u8>) -> Vec<u8> {
-    let mut pages: Vec<u8> = (0..length.div_ceil(PAGE_BYTES)).flat_map(|_| page(random)).collect();
+fn pages_of(random: &mut Random, length: usize, page: Maker) -> Vec<u8> {
+    let mut pages: Vec<u8> = (0..length.div_ceil(SMALL.bytes)).flat_map(|_| page(random, SMALL)).collect();
     pages.truncate(length);
     pages
 }
@@ -78,7 +78,7 @@ fn any_count(random: &mut Random) -> usize {
 /// Pages that a file takes.
 pub fn any_pages(random: &mut Random) -> Vec<u8> {
     let count = any_count(random);
-    random.pick(&CONTENTS)(random, PAGE_BYTES * count)
+    random.pick(&CONTENTS)(random, SMALL.bytes * count)
 }
 
 /// A call with any length classes.
@@ -110,9 +110,9 @@ mod tests {
 
     #[test]
     fn numbered_pages_differ_in_each_place() {
-        let pages = numbered(&mut Random::new(3), FILE_PAGES_MOST * PAGE_BYTES);
-        for place in 0..PAGE_BYTES {
-            let met: HashSet<u8> = pages.iter().skip(place).step_by(PAGE_BYTES).copied().collect();
+        let pages = numbered(&mut Random::new(3), FILE_PAGES_MOST * SMALL.bytes);
+        for place in 0..SMALL.bytes {
+            let met: HashSet<u8> = pages.iter().skip(place).step_by(SMALL.bytes).copied().collect();
             assert_eq!(met.len(), FILE_PAGES_MOST);
         }
     }

@@ -2,13 +2,15 @@
 
 use super::files::{any_bytes, ones, zeros, Contents};
 use super::pages::{
-    any_filled, any_first, any_second, any_values, first_page, flipped, with_byte, with_value, with_word, Maker,
+    any_filled, any_first, any_second, any_values, first_page, flipped, of_any_cells, with_byte, with_value, with_word,
+    Maker,
 };
 use super::words::{illegal, sum_too_large, with_neighbours, ODD_VALUE};
 use crate::answer::Refusal;
-use crate::inspect::{walks, write_inspect, INSPECT_BYTES_MOST};
-use crate::page::{words_of, INSPECTED, PAGE_BYTES, WORDS};
+use crate::inspect::{put_bits, walks, write_inspect, INSPECT_BYTES_MOST};
+use crate::page::{bits_of, put_words, words_of, INSPECTED};
 use crate::random::Random;
+use crate::shape::{Shape, LARGE, SMALL};
 use crate::word::{legal_word, CELLS};
 
 /// Makes records of this many bytes, from no ones to ones alone.
@@ -63,7 +65,8 @@ pub fn inspect_page(first: &[u8], record: &[u8]) -> Vec<u8> {
 /// A first-round page of which a zero record takes so many bits less, 0 to 44, than the 1,980 of the page of zeros: each
 /// word of value 3 takes one bit less than the 45 of one of value 0.
 pub fn first_taking_less(fewer: usize) -> Vec<u8> {
-    first_page(&std::array::from_fn(|index| if index * 5 % WORDS < fewer { 3 } else { 0 }))
+    let value = |index: usize| if index * 5 % SMALL.words < fewer { 3 } else { 0 };
+    first_page(&(0..SMALL.words).map(value).collect::<Vec<u32>>())
 }
 
 /// A record of any kind and of at least `least` bytes, 0 to 126, that fits the first-round page.
@@ -74,8 +77,24 @@ pub fn record_for(random: &mut Random, first: &[u8], least: usize) -> Vec<u8> {
     longest[..length].to_vec()
 }
 
-pub fn any_inspect(random: &mut Random) -> Vec<u8> {
-    let first = any_first(random);
+/// What the Inspect code would leave of a first-round page of 512 bytes, were it offered there.
+pub fn large_inspect(first: &[u8], record: &[u8]) -> Vec<u8> {
+    let (mut words, mut bits) = (words_of(first), bits_of(record));
+    for cells in &mut words {
+        put_bits(cells, &mut bits);
+    }
+    let mut page = with_byte(with_byte(first.to_vec(), 0, INSPECTED), 1, record.len() as u8);
+    put_words(&mut page, &words);
+    page
+}
+
+/// A page of the Inspect code; of 512 bytes, as that code would leave it.
+pub fn any_inspect(random: &mut Random, shape: Shape) -> Vec<u8> {
+    let first = any_first(random, shape);
+    if shape == LARGE {
+        let length = random.between(0, INSPECT_BYTES_MOST);
+        return large_inspect(&first, &any_record(random, length));
+    }
     inspect_page(&first, &record_for(random, &first, 0))
 }
 
@@ -108,7 +127,7 @@ fn record_ending(random: &mut Random, first: &[u8], index: usize, cells: &[usize
 /// cells.
 pub fn first_and_record_ending(random: &mut Random, index: usize, value: u32, cells: &[usize]) -> (Vec<u8>, Vec<u8>) {
     let found = (0..10_000).find_map(|_| {
-        let first = first_page(&with_value(any_values(random), index, value));
+        let first = first_page(&with_value(any_values(random, SMALL), index, value));
         record_ending(random, &first, index, cells).map(|record| (first, record))
     });
     found.expect("some record ends there")
@@ -117,7 +136,7 @@ pub fn first_and_record_ending(random: &mut Random, index: usize, value: u32, ce
 /// The page with a word that is not legal with the read pairs put to 00: a sum too large in any word, or two neighbours in
 /// one that the record does not reach.
 pub fn with_unsound_word(random: &mut Random, page: Vec<u8>) -> Vec<u8> {
-    let index = random.below(WORDS);
+    let index = random.below(SMALL.words);
     let cells = if index < words_reached(&page) { sum_too_large(random) } else { illegal(random) };
     with_word(page, index, cells)
 }
@@ -126,43 +145,43 @@ pub fn with_unsound_word(random: &mut Random, page: Vec<u8>) -> Vec<u8> {
 /// of fewer bits before it.
 pub fn with_length_too_large(random: &mut Random, page: Vec<u8>) -> Vec<u8> {
     let enough = bits_in(&page) >= 8 * INSPECT_BYTES_MOST;
-    let page = if enough { with_word(page, WORDS - 1, legal_word(ODD_VALUE)) } else { page };
+    let page = if enough { with_word(page, SMALL.words - 1, legal_word(ODD_VALUE)) } else { page };
     let least = bits_in(&page) / 8 + 1;
     let any = random.between(least, INSPECT_BYTES_MOST);
     with_byte(page, 1, random.pick(&[least, least, any]) as u8)
 }
 
 fn inspect_with_unsound_word(random: &mut Random) -> Vec<u8> {
-    let page = any_inspect(random);
+    let page = any_inspect(random, SMALL);
     with_unsound_word(random, page)
 }
 
 fn inspect_with_length_too_large(random: &mut Random) -> Vec<u8> {
-    let page = any_inspect(random);
+    let page = any_inspect(random, SMALL);
     with_length_too_large(random, page)
 }
 
 fn inspect_with_header(random: &mut Random) -> Vec<u8> {
     let place = random.between(1, 2);
-    with_byte(any_inspect(random), place, random.byte())
+    with_byte(any_inspect(random, SMALL), place, random.byte())
 }
 
 /// A page whose byte 1 names a length beside the record's.
 fn inspect_of_length_beside(random: &mut Random) -> Vec<u8> {
-    let page = any_inspect(random);
+    let page = any_inspect(random, SMALL);
     let length = page[1];
     with_byte(page, 1, random.pick(&[length.saturating_sub(1), length + 1]))
 }
 
 /// A page with two neighbouring cells set, which the walk reads or not.
 fn inspect_with_neighbours(random: &mut Random) -> Vec<u8> {
-    let (page, index) = (any_inspect(random), random.below(WORDS));
+    let (page, index) = (any_inspect(random, SMALL), random.below(SMALL.words));
     let cells = with_neighbours(words_of(&page)[index], random.below(CELLS - 1));
     with_word(page, index, cells)
 }
 
 fn inspect_flipped(random: &mut Random) -> Vec<u8> {
-    let page = any_inspect(random);
+    let page = any_inspect(random, SMALL);
     flipped(random, page)
 }
 
@@ -170,22 +189,19 @@ fn any_length(random: &mut Random) -> u8 {
     random.between(0, INSPECT_BYTES_MOST) as u8
 }
 
-/// Any cells under a sound header.
 fn inspect_of_any_cells(random: &mut Random) -> Vec<u8> {
-    [vec![INSPECTED, any_length(random), 0], random.bytes(PAGE_BYTES - 3)].concat()
+    let length = any_length(random);
+    of_any_cells(random, SMALL, INSPECTED, length)
 }
 
 /// The cells of a page of another state under the header of the Inspect code.
 fn inspect_of_another_round(random: &mut Random) -> Vec<u8> {
-    let page = random.pick::<Maker>(&[any_first, any_filled, any_second])(random);
+    let page = random.pick::<Maker>(&[any_first, any_filled, any_second])(random, SMALL);
     [&[INSPECTED, any_length(random), 0], &page[3..]].concat()
 }
 
-pub const INSPECT_KINDS: [Maker; 12] = [
-    any_inspect,
-    any_inspect,
-    any_inspect,
-    any_inspect,
+/// Damaged pages of 256 bytes in state 09.
+const DAMAGED_KINDS: [fn(&mut Random) -> Vec<u8>; 8] = [
     inspect_with_unsound_word,
     inspect_with_length_too_large,
     inspect_with_header,
@@ -196,12 +212,22 @@ pub const INSPECT_KINDS: [Maker; 12] = [
     inspect_of_another_round,
 ];
 
+/// A page of state 09, valid or damaged. On 512 bytes no entry looks further than at the length or the state.
+pub fn any_inspect_kind(random: &mut Random, shape: Shape) -> Vec<u8> {
+    if shape == LARGE || random.one_in(3) {
+        any_inspect(random, shape)
+    } else {
+        random.pick(&DAMAGED_KINDS)(random)
+    }
+}
+
 #[cfg(test)]
 mod tests {
     use super::*;
     use crate::answer::number;
     use crate::cases::pages::any_page;
     use crate::inspect::read_inspect;
+    use crate::page::page_capacity;
     use std::collections::HashSet;
 
     fn read(page: &[u8]) -> u8 {
@@ -229,7 +255,7 @@ mod tests {
     fn pages_of_each_kind() {
         let mut random = Random::new(2);
         for _ in 0..200 {
-            assert_eq!(read(&any_inspect(&mut random)), 0);
+            assert_eq!(read(&any_inspect(&mut random, SMALL)), 0);
             assert_eq!(read(&inspect_with_unsound_word(&mut random)), 7);
             assert_eq!(read(&inspect_with_length_too_large(&mut random)), 9);
         }
@@ -238,7 +264,7 @@ mod tests {
     #[test]
     fn every_answer_is_met() {
         let mut random = Random::new(3);
-        let met: HashSet<u8> = (0..500).map(|_| read(&random.pick(&INSPECT_KINDS)(&mut random))).collect();
+        let met: HashSet<u8> = (0..500).map(|_| read(&any_inspect_kind(&mut random, SMALL))).collect();
         assert!(met.is_superset(&HashSet::from([0, 6, 7, 9])), "{met:?}");
     }
 
@@ -246,9 +272,20 @@ mod tests {
     #[test]
     fn any_page_may_be_of_the_inspect_code() {
         let mut random = Random::new(5);
-        let pages = (0..1_000).map(|_| any_page(&mut random)).filter(|page| page[0] == INSPECTED);
+        let pages = (0..1_000).map(|_| any_page(&mut random, SMALL)).filter(|page| page[0] == INSPECTED);
         let met: HashSet<u8> = pages.map(|page| read(&page)).collect();
         assert_eq!(met, HashSet::from([0, 6, 7, 9]));
+    }
+
+    /// Of 512 bytes there are pages of state 09 too, which the reader refuses by 1.
+    #[test]
+    fn pages_of_512_bytes_in_state_09() {
+        let mut random = Random::new(6);
+        for page in [(); 50].map(|()| any_inspect_kind(&mut random, LARGE)) {
+            assert_eq!((page[0], read(&page), page_capacity(&page)), (INSPECTED, 1, Err(Refusal::STATE)));
+        }
+        let pages: Vec<_> = (0..500).map(|_| any_page(&mut random, LARGE)).collect();
+        assert!(pages.iter().filter(|page| page[0] == INSPECTED).count() > 50);
     }
 
     #[test]

@@ -1,26 +1,34 @@
-//! Pages for the calls: of every state, valid and damaged, and as versions before Change 6 left them.
+//! Pages of both sizes for the calls: of every state, valid and damaged, and as versions before Change 6 left them.
 
-use super::inspect::{any_inspect, INSPECT_KINDS};
+use super::files::{any_bytes, ones, zeros, Contents};
+use super::inspect::{any_inspect, any_inspect_kind};
+use super::lengths::resized_with;
 use super::words::{self, any_value, value_with_pulses, Hole, SPARSE_VALUE};
 use crate::call::Entry;
-use crate::page::{self, FILLED, FIRST_ROUND, INSPECTED, PAGE_BYTES, SECOND_BYTES_MOST, SECOND_ROUND, WORDS};
+use crate::page::{self, known_shape, Words, FILLED, FIRST_ROUND, INSPECTED, SECOND_ROUND};
 use crate::random::Random;
+use crate::shape::Shape;
 use crate::word::{self, Cells, CELLS, LAST_CELL};
 
-pub fn blank(_: &mut Random) -> Vec<u8> {
-    vec![0; PAGE_BYTES]
+pub fn blank(_: &mut Random, shape: Shape) -> Vec<u8> {
+    vec![0; shape.bytes]
 }
 
 /// The first record of these values.
-pub fn first_record(values: &[u32; WORDS]) -> Vec<u8> {
+pub fn first_record(values: &[u32]) -> Vec<u8> {
     values.iter().flat_map(|value| value.to_be_bytes()).collect()
 }
 
-/// The first-round page of these values.
-pub fn first_page(values: &[u32; WORDS]) -> Vec<u8> {
-    let mut page = vec![0; PAGE_BYTES];
+/// The first-round page of these values: of 256 bytes for 44 of them, of 512 bytes for 88.
+pub fn first_page(values: &[u32]) -> Vec<u8> {
+    let mut page = vec![0; Shape::with_words(values.len()).bytes];
     page::write_first(&mut page, &first_record(values)).expect("a blank page takes a first record");
     page
+}
+
+/// The first-round page with this value in each word.
+pub fn page_of(shape: Shape, value: u32) -> Vec<u8> {
+    first_page(&vec![value; shape.words])
 }
 
 /// The filled page of a first-round page.
@@ -32,9 +40,8 @@ pub fn filled_page(first: &[u8]) -> Vec<u8> {
 
 /// The filled page of a first-round page, as versions before Change 6 left it.
 pub fn filled_page_earlier(first: &[u8]) -> Vec<u8> {
-    let mut page = with_byte(first.to_vec(), 0, FILLED);
-    page::put_words(&mut page, &page::words_of(first).map(|legal| word::filled_earlier(&legal)));
-    page
+    let words: Words = page::words_of(first).iter().map(word::filled_earlier).collect();
+    page_of_words(FILLED, &words)
 }
 
 /// Makes the filled page of a first-round page.
@@ -62,6 +69,13 @@ pub fn second_page_earlier(first: &[u8], record: &[u8]) -> Vec<u8> {
 /// The most bytes that fit a first-round page or a filled page.
 pub fn most_bytes(page: &[u8]) -> usize {
     page::page_capacity(page).expect("a first-round page or a filled page") as usize / 8
+}
+
+/// The page in this state of these words, with every other byte at 0.
+fn page_of_words(state: u8, words: &[Cells]) -> Vec<u8> {
+    let mut page = with_byte(vec![0; Shape::with_words(words.len()).bytes], 0, state);
+    page::put_words(&mut page, words);
+    page
 }
 
 /// The page with another word in this place.
@@ -105,25 +119,40 @@ pub fn with_data_cell(page: Vec<u8>, place: usize) -> Vec<u8> {
 }
 
 /// The values with another value in this place.
-pub fn with_value(mut values: [u32; WORDS], index: usize, value: u32) -> [u32; WORDS] {
+pub fn with_value(mut values: Vec<u32>, index: usize, value: u32) -> Vec<u32> {
     values[index] = value;
     values
 }
 
-/// The values of a page whose fill takes this many pulses, 0 to 1,012, which its words share evenly.
-pub fn values_with_pulses(pulses: usize) -> [u32; WORDS] {
-    let before = |index: usize| pulses * index / WORDS;
-    std::array::from_fn(|index| value_with_pulses(before(index + 1) - before(index)))
+/// The values of a page that has these by turns.
+pub fn by_turns(shape: Shape, values: &[u32]) -> Vec<u32> {
+    values.iter().copied().cycle().take(shape.words).collect()
+}
+
+/// The values of a page whose fill takes this many pulses, up to the most, which its words share evenly.
+pub fn values_with_pulses(shape: Shape, pulses: usize) -> Vec<u32> {
+    let before = |index: usize| pulses * index / shape.words;
+    (0..shape.words).map(|index| value_with_pulses(before(index + 1) - before(index))).collect()
+}
+
+/// The values of a page, each by itself from this.
+pub fn drawn_values(random: &mut Random, shape: Shape, value: impl Fn(&mut Random) -> u32) -> Vec<u32> {
+    (0..shape.words).map(|_| value(random)).collect()
+}
+
+/// Any 32 bits.
+pub fn any_bits(random: &mut Random) -> u32 {
+    random.draw() as u32
 }
 
 /// The values of a page: all alike, all different, or a mixture of the least and the most capacity.
-pub fn any_values(random: &mut Random) -> [u32; WORDS] {
+pub fn any_values(random: &mut Random, shape: Shape) -> Vec<u32> {
     let alike = any_value(random);
     match random.below(5) {
-        0 => [alike; WORDS],
-        1 => [(); WORDS].map(|()| any_value(random)),
-        2 => [(); WORDS].map(|()| random.pick(&[0, SPARSE_VALUE, alike])),
-        _ => [(); WORDS].map(|()| random.draw() as u32),
+        0 => vec![alike; shape.words],
+        1 => drawn_values(random, shape, any_value),
+        2 => drawn_values(random, shape, |random| random.pick(&[0, SPARSE_VALUE, alike])),
+        _ => drawn_values(random, shape, any_bits),
     }
 }
 
@@ -136,17 +165,17 @@ pub fn any_record(random: &mut Random, length: usize) -> Vec<u8> {
     }
 }
 
-pub fn any_first(random: &mut Random) -> Vec<u8> {
-    first_page(&any_values(random))
+pub fn any_first(random: &mut Random, shape: Shape) -> Vec<u8> {
+    first_page(&any_values(random, shape))
 }
 
-pub fn any_filled(random: &mut Random) -> Vec<u8> {
-    filled_page(&any_first(random))
+pub fn any_filled(random: &mut Random, shape: Shape) -> Vec<u8> {
+    filled_page(&any_first(random, shape))
 }
 
-/// A first-round page, and a record of at least `least` bytes, 0 to 82, that fits it.
-pub fn first_and_record(random: &mut Random, least: usize) -> (Vec<u8>, Vec<u8>) {
-    let first = any_first(random);
+/// A first-round page, and a record of at least `least` bytes, which fit every page, that fits it.
+pub fn first_and_record(random: &mut Random, shape: Shape, least: usize) -> (Vec<u8>, Vec<u8>) {
+    let first = any_first(random, shape);
     let most = most_bytes(&first);
     let any = random.between(least, most);
     let length = random.pick(&[least, most, any, any]);
@@ -154,163 +183,204 @@ pub fn first_and_record(random: &mut Random, least: usize) -> (Vec<u8>, Vec<u8>)
     (first, record)
 }
 
-pub fn any_second(random: &mut Random) -> Vec<u8> {
-    let (first, record) = first_and_record(random, 0);
+pub fn any_second(random: &mut Random, shape: Shape) -> Vec<u8> {
+    let (first, record) = first_and_record(random, shape, 0);
     second_page(&first, &record)
 }
 
 /// A filled page as versions before Change 6 left it.
-fn any_filled_earlier(random: &mut Random) -> Vec<u8> {
-    filled_page_earlier(&any_first(random))
+fn any_filled_earlier(random: &mut Random, shape: Shape) -> Vec<u8> {
+    filled_page_earlier(&any_first(random, shape))
 }
 
 /// A second-round page as versions before Change 6 left it.
-fn any_second_earlier(random: &mut Random) -> Vec<u8> {
-    let (first, record) = first_and_record(random, 0);
+fn any_second_earlier(random: &mut Random, shape: Shape) -> Vec<u8> {
+    let (first, record) = first_and_record(random, shape, 0);
     second_page_earlier(&first, &record)
 }
 
-fn blank_with_byte(random: &mut Random) -> Vec<u8> {
-    let place = random.below(PAGE_BYTES);
-    with_byte(blank(random), place, random.byte_from(1))
+/// The places of the bytes that 6 asks for: 1 and 2, and those after the words.
+pub fn header_places(shape: Shape) -> Vec<usize> {
+    [1, 2].into_iter().chain(shape.tail()).collect()
 }
 
-fn first_with_header(random: &mut Random) -> Vec<u8> {
-    let place = random.between(1, 2);
-    with_byte(any_first(random), place, random.byte())
+fn blank_with_byte(random: &mut Random, shape: Shape) -> Vec<u8> {
+    let (any, of_header) = (random.below(shape.bytes), random.pick(&header_places(shape)));
+    let place = random.pick(&[any, any, of_header]);
+    with_byte(blank(random, shape), place, random.byte_from(1))
 }
 
-fn first_with_illegal_word(random: &mut Random) -> Vec<u8> {
-    let (page, index) = (any_first(random), random.below(WORDS));
+/// The page with any byte in place of one that 6 asks for.
+fn with_header(random: &mut Random, page: Vec<u8>) -> Vec<u8> {
+    let place = random.pick(&header_places(known_shape(&page)));
+    with_byte(page, place, random.byte())
+}
+
+fn first_with_header(random: &mut Random, shape: Shape) -> Vec<u8> {
+    let page = any_first(random, shape);
+    with_header(random, page)
+}
+
+fn first_with_illegal_word(random: &mut Random, shape: Shape) -> Vec<u8> {
+    let (page, index) = (any_first(random, shape), random.below(shape.words));
     with_word(page, index, words::illegal(random))
 }
 
-pub fn flipped(random: &mut Random, page: Vec<u8>) -> Vec<u8> {
-    with_flip(page, random.below(8 * PAGE_BYTES))
+/// An illegal word under a header that is not sound: 6 comes before 7.
+fn first_with_both(random: &mut Random, shape: Shape) -> Vec<u8> {
+    let page = first_with_illegal_word(random, shape);
+    with_header(random, page)
 }
 
-fn first_flipped(random: &mut Random) -> Vec<u8> {
-    let page = any_first(random);
+pub fn flipped(random: &mut Random, page: Vec<u8>) -> Vec<u8> {
+    let bit = random.below(8 * page.len());
+    with_flip(page, bit)
+}
+
+fn first_flipped(random: &mut Random, shape: Shape) -> Vec<u8> {
+    let page = any_first(random, shape);
     flipped(random, page)
 }
 
-/// Any cells under a sound header.
-fn first_of_any_cells(random: &mut Random) -> Vec<u8> {
-    [vec![FIRST_ROUND, 0, 0], random.bytes(PAGE_BYTES - 3)].concat()
+/// Any cells under a sound header of this state and this byte 1.
+pub fn of_any_cells(random: &mut Random, shape: Shape, state: u8, length: u8) -> Vec<u8> {
+    let mut page = with_byte(with_byte(vec![0; shape.bytes], 0, state), 1, length);
+    page[shape.cells()].fill_with(|| random.byte());
+    page
 }
 
-fn filled_with_header(random: &mut Random) -> Vec<u8> {
-    let place = random.between(1, 2);
-    with_byte(any_filled(random), place, random.byte())
+fn first_of_any_cells(random: &mut Random, shape: Shape) -> Vec<u8> {
+    of_any_cells(random, shape, FIRST_ROUND, 0)
+}
+
+fn filled_with_header(random: &mut Random, shape: Shape) -> Vec<u8> {
+    let page = any_filled(random, shape);
+    with_header(random, page)
 }
 
 /// The page with a word that no filled page has.
 pub fn with_flaw(random: &mut Random, page: Vec<u8>) -> Vec<u8> {
-    let index = random.below(WORDS);
+    let index = random.below(known_shape(&page).words);
     with_word(page, index, words::not_unwritten(random))
 }
 
-fn filled_with_flaw(random: &mut Random) -> Vec<u8> {
-    let page = any_filled(random);
+fn filled_with_flaw(random: &mut Random, shape: Shape) -> Vec<u8> {
+    let page = any_filled(random, shape);
     with_flaw(random, page)
 }
 
 /// Two words are not as they must be, for different reasons or the same.
-fn filled_with_two_flaws(random: &mut Random) -> Vec<u8> {
-    let page = filled_with_flaw(random);
+fn filled_with_two_flaws(random: &mut Random, shape: Shape) -> Vec<u8> {
+    let page = filled_with_flaw(random, shape);
     with_flaw(random, page)
 }
 
+/// Such a word under a header that is not sound: 6 comes before 7.
+fn filled_with_both(random: &mut Random, shape: Shape) -> Vec<u8> {
+    let page = filled_with_flaw(random, shape);
+    with_header(random, page)
+}
+
 /// A filled page with one data cell set: the first, the last, or any.
-fn filled_with_data_cell(random: &mut Random) -> Vec<u8> {
-    let page = any_filled(random);
+fn filled_with_data_cell(random: &mut Random, shape: Shape) -> Vec<u8> {
+    let page = any_filled(random, shape);
     let most = page::data_cells_of(&page::words_of(&page)).len();
     let any = random.below(most);
     with_data_cell(page, random.pick(&[0, most - 1, any, any]))
 }
 
 /// A filled page of any unwritten words.
-fn filled_of_any_words(random: &mut Random) -> Vec<u8> {
-    let mut page = vec![0; PAGE_BYTES];
-    page[0] = FILLED;
-    page::put_words(&mut page, &[(); WORDS].map(|()| words::unwritten(random)));
-    page
+fn filled_of_any_words(random: &mut Random, shape: Shape) -> Vec<u8> {
+    let words: Words = (0..shape.words).map(|_| words::unwritten(random)).collect();
+    page_of_words(FILLED, &words)
 }
 
 /// The page with cell 45 flipped in about every other word that has a separator in cell 43, so that each of these words
 /// is as one or the other fill leaves it.
 fn with_either_end(random: &mut Random, page: Vec<u8>) -> Vec<u8> {
-    let ends = page::words_of(&page).map(|cells| word::separators(&cells)[LAST_CELL - 2]);
-    let chosen: Vec<usize> = (0..WORDS).filter(|&index| ends[index] && random.one_in(2)).collect();
+    let words = page::words_of(&page);
+    let ends = |index: &usize| word::separators(&words[*index])[LAST_CELL - 2];
+    let chosen: Vec<usize> = (0..words.len()).filter(|index| ends(index) && random.one_in(2)).collect();
     chosen.into_iter().fold(page, with_cell_45_flipped)
 }
 
 /// A filled page of which each word is as one or the other fill leaves it.
-fn filled_of_either_end(random: &mut Random) -> Vec<u8> {
-    let page = any_filled(random);
+fn filled_of_either_end(random: &mut Random, shape: Shape) -> Vec<u8> {
+    let page = any_filled(random, shape);
     with_either_end(random, page)
 }
 
 /// A second-round page of which each word is as one or the other fill leaves it.
-fn second_of_either_end(random: &mut Random) -> Vec<u8> {
-    let page = any_second(random);
+fn second_of_either_end(random: &mut Random, shape: Shape) -> Vec<u8> {
+    let page = any_second(random, shape);
     with_either_end(random, page)
 }
 
 /// A filled page of either fill with cell 45 of one word flipped: the separator goes or comes, or the data cell is set.
-fn filled_with_cell_45_flipped(random: &mut Random) -> Vec<u8> {
-    let page = random.pick::<Maker>(&[any_filled, any_filled_earlier])(random);
-    with_cell_45_flipped(page, random.below(WORDS))
+fn filled_with_cell_45_flipped(random: &mut Random, shape: Shape) -> Vec<u8> {
+    let page = random.pick::<Maker>(&[any_filled, any_filled_earlier])(random, shape);
+    with_cell_45_flipped(page, random.below(shape.words))
 }
 
 /// The same with a second-round page, where the data cell may have been set.
-fn second_with_cell_45_flipped(random: &mut Random) -> Vec<u8> {
-    let page = random.pick::<Maker>(&[any_second, any_second_earlier])(random);
-    with_cell_45_flipped(page, random.below(WORDS))
+fn second_with_cell_45_flipped(random: &mut Random, shape: Shape) -> Vec<u8> {
+    let page = random.pick::<Maker>(&[any_second, any_second_earlier])(random, shape);
+    with_cell_45_flipped(page, random.below(shape.words))
 }
 
 /// A filled page of either fill that lacks another cell of the fill than 45.
-fn filled_without_separator(random: &mut Random) -> Vec<u8> {
-    let page = random.pick::<Maker>(&[any_filled, any_filled_earlier])(random);
-    let index = random.below(WORDS);
+fn filled_without_separator(random: &mut Random, shape: Shape) -> Vec<u8> {
+    let page = random.pick::<Maker>(&[any_filled, any_filled_earlier])(random, shape);
+    let index = random.below(shape.words);
     without_separator(random, page, index)
 }
 
-fn filled_flipped(random: &mut Random) -> Vec<u8> {
-    let page = any_filled(random);
+fn filled_flipped(random: &mut Random, shape: Shape) -> Vec<u8> {
+    let page = any_filled(random, shape);
     flipped(random, page)
 }
 
-/// Any cells under a sound header.
-fn filled_of_any_cells(random: &mut Random) -> Vec<u8> {
-    [vec![FILLED, 0, 0], random.bytes(PAGE_BYTES - 3)].concat()
+fn filled_of_any_cells(random: &mut Random, shape: Shape) -> Vec<u8> {
+    of_any_cells(random, shape, FILLED, 0)
 }
 
 /// The cells of a first-round or second-round page under the header of a filled one.
-fn filled_of_another_round(random: &mut Random) -> Vec<u8> {
-    let page = random.pick::<Maker>(&[any_first, any_second])(random);
-    [&[FILLED, 0, 0], &page[3..]].concat()
+fn filled_of_another_round(random: &mut Random, shape: Shape) -> Vec<u8> {
+    let page = random.pick::<Maker>(&[any_first, any_second])(random, shape);
+    with_byte(with_byte(page, 0, FILLED), 1, 0)
 }
 
-fn second_with_header(random: &mut Random) -> Vec<u8> {
-    let place = random.between(1, 2);
-    with_byte(any_second(random), place, random.byte())
+fn second_with_header(random: &mut Random, shape: Shape) -> Vec<u8> {
+    let page = any_second(random, shape);
+    with_header(random, page)
 }
 
-fn second_with_hole(random: &mut Random) -> Vec<u8> {
-    let (page, index, hole) = (any_second(random), random.below(WORDS), random.pick(&Hole::ALL));
+fn second_with_hole(random: &mut Random, shape: Shape) -> Vec<u8> {
+    let (page, index) = (any_second(random, shape), random.below(shape.words));
+    let hole = random.pick(&Hole::ALL);
     with_word(page, index, words::with_hole(random, hole))
 }
 
+/// A hole under a header that is not sound: 6 comes before 7.
+fn second_with_both(random: &mut Random, shape: Shape) -> Vec<u8> {
+    let page = second_with_hole(random, shape);
+    with_header(random, page)
+}
+
+/// Any length that byte 1 may name in state 07.
+fn any_length(random: &mut Random, shape: Shape) -> u8 {
+    random.between(0, shape.second_bytes_most) as u8
+}
+
 /// A second-round page whose byte 1 names another length.
-fn second_of_other_length(random: &mut Random) -> Vec<u8> {
-    let length = random.between(0, SECOND_BYTES_MOST);
-    with_byte(any_second(random), 1, length as u8)
+fn second_of_other_length(random: &mut Random, shape: Shape) -> Vec<u8> {
+    let length = any_length(random, shape);
+    with_byte(any_second(random, shape), 1, length)
 }
 
 /// A second-round page with a data cell set, in the record or spare.
-fn second_with_data_cell(random: &mut Random) -> Vec<u8> {
-    let page = any_second(random);
+fn second_with_data_cell(random: &mut Random, shape: Shape) -> Vec<u8> {
+    let page = any_second(random, shape);
     let most = page::data_cells_of(&page::words_of(&page)).len();
     let spare = (8 * usize::from(page[1])).min(most - 1);
     let any = random.below(most);
@@ -318,43 +388,55 @@ fn second_with_data_cell(random: &mut Random) -> Vec<u8> {
 }
 
 /// A second-round page of any well-formed words, with no first record behind it.
-fn second_of_any_words(random: &mut Random) -> Vec<u8> {
-    let mut page = vec![0; PAGE_BYTES];
-    page[0] = SECOND_ROUND;
-    page[1] = random.between(0, SECOND_BYTES_MOST) as u8;
-    page::put_words(&mut page, &[(); WORDS].map(|()| words::well_formed(random)));
-    page
+fn second_of_any_words(random: &mut Random, shape: Shape) -> Vec<u8> {
+    let length = any_length(random, shape);
+    let words: Words = (0..shape.words).map(|_| words::well_formed(random)).collect();
+    with_byte(page_of_words(SECOND_ROUND, &words), 1, length)
 }
 
-fn second_flipped(random: &mut Random) -> Vec<u8> {
-    let page = any_second(random);
+fn second_flipped(random: &mut Random, shape: Shape) -> Vec<u8> {
+    let page = any_second(random, shape);
     flipped(random, page)
 }
 
-/// Any cells under a sound header.
-fn second_of_any_cells(random: &mut Random) -> Vec<u8> {
-    let length = random.between(0, SECOND_BYTES_MOST) as u8;
-    [vec![SECOND_ROUND, length, 0], random.bytes(PAGE_BYTES - 3)].concat()
+fn second_of_any_cells(random: &mut Random, shape: Shape) -> Vec<u8> {
+    let length = any_length(random, shape);
+    of_any_cells(random, shape, SECOND_ROUND, length)
 }
 
 /// A valid page of one state under the state byte of another, or of none.
-fn any_state(random: &mut Random) -> Vec<u8> {
-    let page = random.pick::<Maker>(&[blank, any_first, any_filled, any_second, any_inspect])(random);
+fn any_state(random: &mut Random, shape: Shape) -> Vec<u8> {
+    let page = random.pick::<Maker>(&[blank, any_first, any_filled, any_second, any_inspect])(random, shape);
     let any = random.byte();
     with_byte(page, 0, random.pick(&[0x00, 0x01, 0x03, 0x07, 0x09, any, any, any]))
 }
 
-fn any_bytes(random: &mut Random) -> Vec<u8> {
-    random.bytes(PAGE_BYTES)
+fn of_any_bytes(random: &mut Random, shape: Shape) -> Vec<u8> {
+    random.bytes(shape.bytes)
+}
+
+/// The bytes of a valid page of the other size at this one's length: cut, or followed by zeros, by ones or by any bytes.
+fn of_the_other_size(random: &mut Random, shape: Shape) -> Vec<u8> {
+    let page = random.pick::<Maker>(&[blank, any_first, any_filled, any_second])(random, shape.other());
+    let contents = random.pick::<Contents>(&[zeros, ones, any_bytes]);
+    resized_with(random, page, shape.bytes, contents)
 }
 
 /// Makes a page of some kind.
-pub type Maker = fn(&mut Random) -> Vec<u8>;
+pub type Maker = fn(&mut Random, Shape) -> Vec<u8>;
 
 const BLANK_KINDS: [Maker; 4] = [blank, blank, blank, blank_with_byte];
-const FIRST_KINDS: [Maker; 7] =
-    [any_first, any_first, any_first, first_with_header, first_with_illegal_word, first_flipped, first_of_any_cells];
-const FILLED_KINDS: [Maker; 17] = [
+const FIRST_KINDS: [Maker; 8] = [
+    any_first,
+    any_first,
+    any_first,
+    first_with_header,
+    first_with_illegal_word,
+    first_with_both,
+    first_flipped,
+    first_of_any_cells,
+];
+const FILLED_KINDS: [Maker; 18] = [
     any_filled,
     any_filled,
     any_filled,
@@ -368,12 +450,13 @@ const FILLED_KINDS: [Maker; 17] = [
     filled_with_flaw,
     filled_with_flaw,
     filled_with_two_flaws,
+    filled_with_both,
     filled_with_data_cell,
     filled_flipped,
     filled_of_any_cells,
     filled_of_another_round,
 ];
-const SECOND_KINDS: [Maker; 14] = [
+const SECOND_KINDS: [Maker; 15] = [
     any_second,
     any_second,
     any_second,
@@ -383,32 +466,43 @@ const SECOND_KINDS: [Maker; 14] = [
     second_with_cell_45_flipped,
     second_with_header,
     second_with_hole,
+    second_with_both,
     second_of_other_length,
     second_with_data_cell,
     second_of_any_words,
     second_flipped,
     second_of_any_cells,
 ];
-const OTHER_KINDS: [Maker; 2] = [any_state, any_bytes];
+const INSPECT_KINDS: [Maker; 1] = [any_inspect_kind];
+const OTHER_KINDS: [Maker; 3] = [any_state, of_any_bytes, of_the_other_size];
+
+/// The kinds of pages of this state, valid and damaged.
+fn kinds(state: u8) -> &'static [Maker] {
+    match state {
+        FIRST_ROUND => &FIRST_KINDS,
+        FILLED => &FILLED_KINDS,
+        SECOND_ROUND => &SECOND_KINDS,
+        INSPECTED => &INSPECT_KINDS,
+        _ => &BLANK_KINDS,
+    }
+}
 
 /// A page of any kind.
-pub fn any_page(random: &mut Random) -> Vec<u8> {
+pub fn any_page(random: &mut Random, shape: Shape) -> Vec<u8> {
     let kinds: [&[Maker]; 6] = [&BLANK_KINDS, &FIRST_KINDS, &FILLED_KINDS, &SECOND_KINDS, &INSPECT_KINDS, &OTHER_KINDS];
     let kind = random.pick(&kinds);
-    random.pick(kind)(random)
+    random.pick(kind)(random, shape)
 }
 
 /// A page mostly of a state that the entry asks for.
-pub fn page_for(random: &mut Random, entry: Entry) -> Vec<u8> {
-    if random.one_in(8) {
-        return any_page(random);
-    }
-    match random.pick(entry.states()) {
-        FIRST_ROUND => random.pick(&FIRST_KINDS)(random),
-        FILLED => random.pick(&FILLED_KINDS)(random),
-        SECOND_ROUND => random.pick(&SECOND_KINDS)(random),
-        INSPECTED => random.pick(&INSPECT_KINDS)(random),
-        _ => random.pick(&BLANK_KINDS)(random),
+pub fn page_for(random: &mut Random, entry: Entry, shape: Shape) -> Vec<u8> {
+    match random.below(16) {
+        0 | 1 => any_page(random, shape),
+        2 => of_the_other_size(random, shape),
+        _ => {
+            let state = random.pick(entry.states());
+            random.pick(kinds(state))(random, shape)
+        }
     }
 }
 
@@ -417,20 +511,38 @@ mod tests {
     use super::*;
     use crate::answer::number;
     use crate::call::Call;
-    use crate::page::{page_capacity, read_second, write_second};
+    use crate::page::{page_capacity, read_first, read_second, write_first, write_second};
     use std::collections::HashSet;
+
+    /// The number of page capacity's answer.
+    fn measured(page: &[u8]) -> u8 {
+        number(page_capacity(page))
+    }
+
+    /// The number of read second's answer, with an output that is long enough.
+    fn read(page: &[u8]) -> u8 {
+        number(read_second(page, &mut [0; 255]))
+    }
+
+    #[test]
+    fn pages_have_their_length() {
+        let mut random = Random::new(5);
+        for shape in Shape::BOTH.repeat(2_000) {
+            assert_eq!(any_page(&mut random, shape).len(), shape.bytes);
+        }
+    }
 
     #[test]
     fn filled_pages_of_each_kind() {
         let mut random = Random::new(6);
-        for _ in 0..200 {
+        for shape in Shape::BOTH.repeat(100) {
             for maker in [any_filled, any_filled_earlier, filled_of_either_end, filled_of_any_words] {
-                assert!(page_capacity(&maker(&mut random)).is_ok());
+                assert!(page_capacity(&maker(&mut random, shape)).is_ok());
             }
             let flawed: [Maker; 4] =
                 [filled_with_flaw, filled_with_two_flaws, filled_with_data_cell, filled_without_separator];
             for maker in flawed {
-                assert_eq!(number(page_capacity(&maker(&mut random))), 7);
+                assert_eq!(number(page_capacity(&maker(&mut random, shape))), 7);
             }
         }
     }
@@ -438,10 +550,63 @@ mod tests {
     #[test]
     fn second_round_pages_of_each_kind() {
         let mut random = Random::new(6);
-        for _ in 0..200 {
+        for shape in Shape::BOTH.repeat(100) {
             for maker in [any_second, any_second_earlier, second_of_either_end] {
-                assert!(read_second(&maker(&mut random), &mut [0; SECOND_BYTES_MOST]).is_ok());
+                assert_eq!(read(&maker(&mut random, shape)), 0);
             }
+        }
+    }
+
+    /// Under a bad word, and under none: the header is sound, by chance, or 6 is for it.
+    #[test]
+    fn pages_with_a_header_byte() {
+        let mut random = Random::new(6);
+        let makers: [(Maker, Maker, fn(&[u8]) -> u8); 3] = [
+            (first_with_header, first_with_both, measured),
+            (filled_with_header, filled_with_both, measured),
+            (second_with_header, second_with_both, read),
+        ];
+        for (shape, (alone, both, answer)) in Shape::BOTH.into_iter().flat_map(|shape| makers.map(|three| (shape, three)))
+        {
+            let met: HashSet<u8> = (0..2_000).map(|_| answer(&alone(&mut random, shape))).collect();
+            assert!(met.is_superset(&HashSet::from([0, 6])) && !met.contains(&7), "{met:?}");
+            let met: HashSet<u8> = (0..2_000).map(|_| answer(&both(&mut random, shape))).collect();
+            assert_eq!(met, HashSet::from([6, 7]));
+        }
+    }
+
+    /// Each byte that 6 asks for, and some other byte, is the one that is not blank.
+    #[test]
+    fn blank_pages_with_a_byte() {
+        let mut random = Random::new(6);
+        for shape in Shape::BOTH {
+            let set = |page: Vec<u8>| page.iter().position(|&byte| byte != 0).expect("a byte");
+            let met: HashSet<usize> = (0..500).map(|_| set(blank_with_byte(&mut random, shape))).collect();
+            assert!(header_places(shape).iter().all(|place| met.contains(place)) && met.len() > 100, "{met:?}");
+        }
+        assert_eq!(header_places(Shape::BOTH[0]), [1, 2]);
+        assert_eq!(header_places(Shape::BOTH[1]), [1, 2, 509, 510, 511]);
+    }
+
+    /// The answers that the bytes of a page of the other size lead to.
+    #[test]
+    fn pages_of_the_other_size() {
+        let mut random = Random::new(6);
+        let answers = |page: &[u8]| {
+            let first = number(read_first(page, &mut [0; 352]));
+            let written = number(write_first(&mut page.to_vec(), &vec![0; known_shape(page).first_bytes]));
+            [(0x00, written), (0x01, first), (0x03, number(page_capacity(page))), (0x07, read(page))]
+        };
+        for (shape, wanted) in Shape::BOTH.into_iter().zip([
+            // Cut: first-round and filled pages, but not every second-round page, are pages.
+            vec![(0x00, 0), (0x01, 0), (0x03, 0), (0x07, 0), (0x07, 6), (0x07, 9)],
+            // Before other bytes: with zeros, a blank page and a first-round page are pages.
+            vec![(0x00, 0), (0x00, 4), (0x01, 0), (0x01, 6), (0x03, 6), (0x03, 7), (0x07, 6), (0x07, 7)],
+        ]) {
+            let pages = (0..1_000).map(|_| of_the_other_size(&mut random, shape));
+            let own = |page: Vec<u8>| answers(&page).into_iter().find(|(state, _)| *state == page[0]);
+            let met: HashSet<(u8, u8)> = pages.filter_map(own).collect();
+            assert_eq!(met, HashSet::from_iter(wanted), "{}", shape.bytes);
         }
     }
 
@@ -449,21 +614,24 @@ mod tests {
     #[test]
     fn pages_with_cell_45_flipped() {
         let mut random = Random::new(7);
-        let measured = (0..300).map(|_| number(page_capacity(&filled_with_cell_45_flipped(&mut random))));
-        assert_eq!(measured.collect::<HashSet<u8>>(), HashSet::from([0, 7]));
-        let read = |page: Vec<u8>| number(read_second(&page, &mut [0; SECOND_BYTES_MOST]));
-        let met: HashSet<u8> = (0..300).map(|_| read(second_with_cell_45_flipped(&mut random))).collect();
-        assert_eq!(met, HashSet::from([0, 7, 9]));
+        for shape in Shape::BOTH {
+            let measured = (0..300).map(|_| number(page_capacity(&filled_with_cell_45_flipped(&mut random, shape))));
+            assert_eq!(measured.collect::<HashSet<u8>>(), HashSet::from([0, 7]));
+            let met: HashSet<u8> = (0..300).map(|_| read(&second_with_cell_45_flipped(&mut random, shape))).collect();
+            assert_eq!(met, HashSet::from([0, 7, 9]));
+        }
     }
 
     /// Where a word ends in cell 43, both ends occur on one page; the other words stay as they are.
     #[test]
     fn words_of_either_end() {
         let mut random = Random::new(8);
-        for maker in [filled_of_either_end, second_of_either_end] {
-            let pages: Vec<_> = (0..50).map(|_| page::words_of(&maker(&mut random))).collect();
-            let open_and_not = |words: &&page::Words| {
-                let ends = words.map(|cells| word::separators(&cells)).map(|cells| (cells[43], cells[45]));
+        let makers: [Maker; 2] = [filled_of_either_end, second_of_either_end];
+        for (shape, maker) in Shape::BOTH.into_iter().flat_map(|shape| makers.map(|maker| (shape, maker))) {
+            let pages: Vec<_> = (0..50).map(|_| page::words_of(&maker(&mut random, shape))).collect();
+            let open_and_not = |words: &&Words| {
+                let end = |cells: &Cells| (word::separators(cells)[43], word::separators(cells)[45]);
+                let ends: HashSet<(bool, bool)> = words.iter().map(end).collect();
                 ends.contains(&(true, false)) && ends.contains(&(true, true))
             };
             assert!(pages.iter().filter(open_and_not).count() > 25);
@@ -474,9 +642,10 @@ mod tests {
     /// left them.
     #[test]
     fn pages_for_the_entries_after_the_fill() {
-        for entry in Entry::AFTER_THE_FILL {
+        for (entry, shape) in Entry::AFTER_THE_FILL.into_iter().flat_map(|entry| Shape::BOTH.map(|shape| (entry, shape))) {
             let mut random = Random::new(9);
-            let pages: Vec<_> = (0..1_000).map(|_| page_for(&mut random, entry)).filter(|page| page[0] > 1).collect();
+            let pages = (0..1_000).map(|_| page_for(&mut random, entry, shape));
+            let pages: Vec<_> = pages.filter(|page| page[0] > 1).collect();
             let accepted = |page: &&Vec<u8>| {
                 let mut call = Call::of_page(entry, page.to_vec(), Vec::new());
                 // An empty output may be too short.
@@ -492,8 +661,10 @@ mod tests {
     #[test]
     fn any_page_may_be_filled() {
         let mut random = Random::new(7);
-        let pages = (0..1_000).map(|_| any_page(&mut random)).filter(|page| page[0] == FILLED);
-        let met: HashSet<u8> = pages.map(|mut page| number(write_second(&mut page, &[]))).collect();
-        assert_eq!(met, HashSet::from([0, 6, 7]));
+        for shape in Shape::BOTH {
+            let pages = (0..1_000).map(|_| any_page(&mut random, shape)).filter(|page| page[0] == FILLED);
+            let met: HashSet<u8> = pages.map(|mut page| number(write_second(&mut page, &[]))).collect();
+            assert_eq!(met, HashSet::from([0, 6, 7]));
+        }
     }
 }

@@ -8,7 +8,8 @@ use lib.ListN.{length, set}
 use lib.Seq.{set-split}
 use Rattle.window.specs.Words.{pageWords, putWords}
 use Rattle.window.proofs.Words.{pageWords-set}
-use Rattle.rows.specs.Page.{Shape, fillAll, pulsesAll, filledPage}
+use Rattle.rows.specs.declared.shape.Shape.{Shape}
+use Rattle.rows.specs.Page.{fillAll, pulsesAll, filledPage}
 use Rattle.filled.specs.Answer.{pulsesOf}
 
 pub pulses-set : (s : Shape) (P : List ℕ) → pulsesAll (pageWords (set P 0 3) (s .words)) ≡ pulsesOf s P

@@ -7,7 +7,8 @@ use lib.ListN.{length, set}
 use lib.Seq.{set-split}
 use Rattle.cells.specs.Bytes.{zeros}
 use Rattle.window.specs.Words.{putWords}
-use Rattle.rows.specs.Page.{Shape, blankOf, firstWords, firstPage}
+use Rattle.rows.specs.declared.shape.Shape.{Shape}
+use Rattle.rows.specs.Page.{blankOf, firstWords, firstPage}
 use Rattle.rows.proofs.Blank.{length-blank, not-blank}
 
 -- b tells whether every byte of a page is 0

@@ -59,8 +59,8 @@ data-cells-requires c κs = let w = word c in (w .small, w .apart)
 read-bits-requires : tie.Need-read-bits-requires Inv-loop μ-loop
 read-bits-requires c κs = let s = c .before .before in (loaded-lt _ _ _ (omega arith) (s .before .before .before .load-word .ensures), s .separators-of .ensures)
 
-put-cells-requires : tie.Need-put-cells-requires Inv-loop μ-loop
-put-cells-requires c κs =
+put-few-requires : tie.Need-put-few-requires Inv-loop μ-loop
+put-few-requires c κs =
     let count = c .before .before in
     let w = word (count .before) in
     let n = count .data-cells .ensures in (
@@ -70,15 +70,15 @@ put-cells-requires c κs =
       read-fits _ _ _ _ _ _ w n (c .read-bits .ensures),
     )
 
-turned : (c : tie.After-put-cells Inv-loop μ-loop) →
+turned : (c : tie.After-put-few Inv-loop μ-loop) →
     let l = c .before .before .before .before .before .before .before .before .before in
     let a = l .before .before .before .args in
-    Gathering (a .page .now) (a .buffer .now) (c .put-cells .last .0) (l .loop .at + c .before .before .before .data-cells .result) (l .loop .i + 1)
+    Gathering (a .page .now) (a .buffer .now) (c .put-few .last .0) (l .loop .at + c .before .before .before .data-cells .result) (l .loop .i + 1)
 turned c =
     let count = c .before .before .before in
     let l = count .before .before .before .before .before .before in
     gathering-turn _ _ _ _ _ _ _ _ _ _ (l .loop .inv .2) (omega (arith, l .before .before .before .pre .1)) (word (count .before))
-    (count .data-cells .ensures) (c .before .read-bits .ensures) (c .put-cells .ensures)
+    (count .data-cells .ensures) (c .before .read-bits .ensures) (c .put-few .ensures)
 
 add-at : tie.Need-add-at Inv-loop μ-loop
 add-at c = omega (arith, turned (c .before .before) .counted .few)
@@ -118,7 +118,7 @@ gather-spec =
     separators-of-requires
     data-cells-requires
     read-bits-requires
-    put-cells-requires
+    put-few-requires
     add-at
     add-i
     loop-less

@@ -10,7 +10,8 @@ use Rattle.cells.specs.Bytes.{bits}
 use Rattle.answer.specs.Answer.{result, refusal}
 use Rattle.window.specs.Words.{pageWords, putWords}
 use Rattle.window.proofs.Words.{pageWords-set}
-use Rattle.rows.specs.Page.{Shape, page256, withHeader, putAll, FilledOf}
+use Rattle.rows.specs.declared.shape.Shape.{Shape}
+use Rattle.rows.specs.Page.{page256, withHeader, putAll, FilledOf}
 use Rattle.rows.specs.Code.{fillCode, writtenOf}
 use Rattle.rows.proofs.EachWord.{row-page}
 use Rattle.rows.proofs.SecondWords.{read-most}

@@ -1,0 +1,68 @@
+// The shape of a page, found from its length, and the bytes of a page that are neither its state nor in its words.
+ghost use mathlib.Core.Path.{_≡_};
+ghost use Prim.Native.Nat.{_^_, _≤_, _<_};
+ghost use lib.ListN.{length};
+ghost use Rattle.cells.specs.Bytes.{zeros};
+ghost use Rattle.rows.specs.Page.{page256, shapeFor, tail, badHeader};
+
+// A shape of page: its size in bytes, the number of its words, and the bytes of its first record. The definitions use this very record.
+pub struct Shape {
+    pub size: usize,
+    pub words: usize,
+    pub first: usize,
+}
+
+// Document 01's page.
+pub fn small_page() -> Shape
+    ensures { λ r. ⌜ r ≡ page256 ⌝ }
+{
+    Shape {
+        size: 256,
+        words: 44,
+        first: 176,
+    }
+}
+
+// The shape that a page of so many bytes is held to. One of neither size gets the small page's, whose size it does not have.
+pub fn shape_of(length: usize) -> Shape
+    ensures { λ r. ⌜ r ≡ shapeFor length ⌝ }
+{
+    if length == 512 {
+        return Shape {
+            size: 512,
+            words: 88,
+            first: 352,
+        };
+    }
+    small_page()
+}
+
+// Whether every byte after a page's n words is 0. There are at most three, which are looked at one by one: a sum of many at once would take
+// vector registers in every entry that asks for it.
+fn tail_zero(page: &[u8], n: usize) -> bool
+    requires { ⌜ n < 2 ^ 16 ⌝ }
+    ensures { λ r. ⌜ r ≡ zeros (tail n (now (page .entry))) ⌝ }
+{
+    let mut i = 3 + 46 * n / 8;
+    while i < page.len() {
+        if page[i] != 0 {
+            return false;
+        }
+        i += 1;
+    }
+    true
+}
+
+// Refusal 6 of a page of n words with a second record of at most `most` bytes; without one, `most` is 0.
+pub fn bad_header(page: &[u8], n: usize, most: usize) -> bool
+    requires { ⌜ (3 ≤ length (now page)) × (n < 2 ^ 16) ⌝ }
+    ensures { λ r. ⌜ r ≡ badHeader most n (now (page .entry)) ⌝ }
+{
+    if most < page[1] as usize {
+        return true;
+    }
+    if page[2] != 0 {
+        return true;
+    }
+    !tail_zero(page, n)
+}
