@@ -113,20 +113,20 @@ module _ (test : List Bool → Bool) (ws : List (List Bool)) where
         → (answer (refuseWord test ws ∷ cs) x ≡ result v) ↔ (AllPass × X)
     word-taken v e = taken bad-word 7 (lowest test ws) cs x v e
 
--- ---- the words of a page, as the loops over them ask it, and as they tell it
+-- ---- the n words of a page, as the loops over them ask it, and as they tell it
 
-module _ (s : Shape) (test : List Bool → Bool) (P : List ℕ) where
+module _ (n : ℕ) (test : List Bool → Bool) (P : List ℕ) where
   abbrev words : List (List Bool)
-  words = pageWords P (s .words)
+  words = pageWords P n
 
-  pub lowest-bad : (i : ℕ) → i ≡ lowest test words → i < s .words → LowestBad test words i
-  lowest-bad i e h = row-bad test words i .0 (omega (arith, length-pageWords P (s .words)), e)
+  pub lowest-bad : (i : ℕ) → i ≡ lowest test words → i < n → LowestBad test words i
+  lowest-bad i e h = row-bad test words i .0 (omega (arith, length-pageWords P n), e)
 
-  pub all-words : Passed test P (s .words) → lowest test words ≡ s .words
-  all-words h = scan-passed test P (s .words) h
+  pub all-words : Passed test P n → lowest test words ≡ n
+  all-words h = scan-passed test P n h
 
-  pub no-bad-word : (i : ℕ) → i ≡ lowest test words → s .words ≤ i → Passed test P (s .words)
-  no-bad-word i e h = all-passed test P (s .words) (omega (arith, lowest-le test words, length-pageWords P (s .words)))
+  pub no-bad-word : (i : ℕ) → i ≡ lowest test words → n ≤ i → Passed test P n
+  no-bad-word i e h = all-passed test P n (omega (arith, lowest-le test words, length-pageWords P n))
 
 -- ---- all four, of a page in state k without a second record, then other checks
 
@@ -139,11 +139,11 @@ module _ (k : ℕ) (test : List Bool → Bool) (s : Shape) (P : List ℕ) (cs : 
     one = headed-1 s P k (empty-tells (s .words) P) _ x (f .0);
     five = headed-5 s P k (empty-tells (s .words) P) _ x (f .1);
     six = headed-6 s P k (empty-tells (s .words) P) _ x (f .2);
-    seven = λ i. headed-later s P k (empty-tells (s .words) P) _ x 7 i (omega arith) (word-7 test (words s test P) cs x (f .3) i);
+    seven = λ i. headed-later s P k (empty-tells (s .words) P) _ x 7 i (omega arith) (word-7 test (words (s .words) test P) cs x (f .3) i);
   }
 
   -- its length, header and words together
-  open-parts : {X : Type 0} → Bytes P → (HeaderOf k s P × (AllPass test (words s test P) × X)) ↔ (OpenOf k test s P × X)
+  open-parts : {X : Type 0} → Bytes P → (HeaderOf k s P × (AllPass test (words (s .words) test P) × X)) ↔ (OpenOf k test s P × X)
   open-parts b =
       let n = s .words in
       let l = length-pageWords P n in (
@@ -175,8 +175,8 @@ module _ (k : ℕ) (test : List Bool → Bool) (s : Shape) (P : List ℕ) (cs : 
   pub state-later : {X : Type 0} (n i : ℕ) → Bytes P → ¬ (1 ≡ n) × ¬ (5 ≡ n) × ¬ (6 ≡ n) × ¬ (7 ≡ n) → (answer cs x ≡ refusal n i) ↔ X
       → (answer (stateChecks k test s P ++ cs) x ≡ refusal n i) ↔ (OpenOf k test s P × X)
   state-later n i b d e =
-      Iff·trans (headed-later s P k (empty-tells (s .words) P) _ x n i (d .0, d .1, d .2) (word-later test (words s test P) cs x n i (d .3) e)) (open-parts b)
+      Iff·trans (headed-later s P k (empty-tells (s .words) P) _ x n i (d .0, d .1, d .2) (word-later test (words (s .words) test P) cs x n i (d .3) e)) (open-parts b)
 
   pub state-taken : {X : Type 0} (v : ℕ) → Bytes P → (answer cs x ≡ result v) ↔ X
       → (answer (stateChecks k test s P ++ cs) x ≡ result v) ↔ (OpenOf k test s P × X)
-  state-taken v b e = Iff·trans (headed-taken s P k (empty-tells (s .words) P) _ x v (word-taken test (words s test P) cs x v e)) (open-parts b)
+  state-taken v b e = Iff·trans (headed-taken s P k (empty-tells (s .words) P) _ x v (word-taken test (words (s .words) test P) cs x v e)) (open-parts b)

@@ -139,6 +139,12 @@ impl Entry {
         }
     }
 
+    /// The entries that take a page in this state and of this shape.
+    pub fn taking(state: u8, shape: Shape) -> Vec<Entry> {
+        let takes = |entry: &Entry| entry.states().contains(&state) && entry.shapes().contains(&shape);
+        Entry::OF_PAGES.into_iter().filter(takes).collect()
+    }
+
     pub fn takes_page(self) -> bool {
         Entry::OF_PAGES.contains(&self)
     }

@@ -1,0 +1,123 @@
+//! The calls with buffers of every length: pages, data, records, outputs, and pages of the other size.
+
+use super::Walk;
+use crate::call::Entry;
+use crate::cases::files::{any_bytes, ones, zeros, Contents};
+use crate::cases::lengths::{resized, resized_with, FAR_RECORD_LENGTHS};
+use crate::cases::pages::*;
+use crate::cases::words::SPARSE_VALUE;
+use crate::shape::SMALL;
+
+/// What may follow a page of 256 bytes in a buffer of 512.
+const AFTER_A_PAGE: [Contents; 3] = [zeros, ones, any_bytes];
+
+impl Walk {
+    pub fn pages_of_every_length(&mut self) {
+        self.named_lengths();
+        self.record_lengths();
+        self.exact_fits();
+        self.output_lengths();
+        self.page_lengths();
+        self.other_sizes();
+        self.data_lengths();
+    }
+
+    /// Every byte 1 that may name too much.
+    fn named_lengths(&mut self) {
+        let least = self.shape.second_bytes_sure() as u8 - 22;
+        for value in [0, 1, 3, SPARSE_VALUE] {
+            let empty = second_page(&self.page_of(value), &[]);
+            for length in least..=(self.shape.second_bytes_most as u8).saturating_add(4) {
+                self.pages(&[Entry::ReadSecond], &with_byte(empty.clone(), 1, length));
+            }
+        }
+    }
+
+    /// Every record length up to some that are too long over the least, the most and a middle capacity, each outcome read
+    /// back; and lengths far beyond.
+    fn record_lengths(&mut self) {
+        for first in [self.page_of(SPARSE_VALUE), self.page_of(0), self.first.clone()] {
+            let filled = filled_page(&first);
+            for length in 0..=self.shape.second_bytes_most + 4 {
+                self.page(Entry::WriteSecond, &filled, length);
+                if length <= most_bytes(&first) {
+                    let outcome = second_page(&first, &self.random.bytes(length));
+                    self.page(Entry::ReadSecond, &outcome, length);
+                }
+            }
+            FAR_RECORD_LENGTHS.into_iter().for_each(|length| self.page(Entry::WriteSecond, &filled, length));
+        }
+    }
+
+    /// Up to 7 words of another capacity, so that the longest record that fits leaves 0 to 7 data cells: that record, its
+    /// outcome read back, and one byte more.
+    fn exact_fits(&mut self) {
+        for (others, value) in (0..8).flat_map(|others| [(others, 0), (others, SPARSE_VALUE)]) {
+            let mut values = vec![value; self.shape.words];
+            values[..others].fill(1);
+            let first = first_page(&values);
+            let most = most_bytes(&first);
+            let filled = filled_page(&first);
+            self.page(Entry::WriteSecond, &filled, most);
+            self.page(Entry::WriteSecond, &filled, most + 1);
+            let outcome = second_page(&first, &self.random.bytes(most));
+            self.page(Entry::ReadSecond, &outcome, most);
+        }
+    }
+
+    /// Every output length up to some that are longer than the first record.
+    fn output_lengths(&mut self) {
+        let (most, sure) = (self.shape.second_bytes_most, self.shape.second_bytes_sure());
+        let seconds = [0, 1, sure, most].map(|length| second_page(&self.page_of(0), &self.random.bytes(length)));
+        for length in 0..=self.shape.first_bytes + 4 {
+            self.page(Entry::ReadFirst, &self.first.clone(), length);
+            for second in &seconds {
+                self.page(Entry::ReadSecond, second, length);
+            }
+        }
+    }
+
+    /// Every page length 0 to 520, and some beyond.
+    fn page_lengths(&mut self) {
+        for length in (0..=520).chain([768, 1_024, 4_096]) {
+            for base in self.bases() {
+                let page = resized(&mut self.random, base, length);
+                self.pages(&Entry::OF_PAGES, &page);
+            }
+        }
+    }
+
+    /// Valid pages of the other size: blank, and of the most, the least and a middle capacity in each state.
+    fn pages_of_the_other_size(&mut self) -> Vec<Vec<u8>> {
+        let shape = self.shape.other();
+        let mut pages = vec![blank(&mut self.random, shape)];
+        let any = first_page(&drawn_values(&mut self.random, shape, any_bits));
+        for first in [page_of(shape, 0), page_of(shape, SPARSE_VALUE), any] {
+            let filled = filled_page(&first);
+            for length in [0, 1, 40, SMALL.second_bytes_sure(), most_bytes(&first)] {
+                pages.push(written_over(filled.clone(), &self.random.bytes(length)));
+            }
+            pages.extend([filled, first]);
+        }
+        pages
+    }
+
+    /// The bytes of pages of the other size at this one's length: cut, or followed by zeros, by ones or by any bytes, and
+    /// the same with bytes 509 to 511 at 0.
+    fn other_sizes(&mut self) {
+        let after = if self.shape == SMALL { &AFTER_A_PAGE[..1] } else { &AFTER_A_PAGE };
+        for page in self.pages_of_the_other_size() {
+            for &after in after {
+                let page = resized_with(&mut self.random, page.clone(), self.shape.bytes, after);
+                let mut sound = page.clone();
+                sound[self.shape.tail()].fill(0);
+                [page, sound].iter().for_each(|page| self.pages(&Entry::OF_PAGES, page));
+            }
+        }
+    }
+
+    /// Every data length 0 to 360.
+    fn data_lengths(&mut self) {
+        (0..=360).for_each(|length| self.page(Entry::WriteFirst, &self.blank.clone(), length));
+    }
+}
