@@ -1,28 +1,40 @@
 //! Counters of the calls that a run has made, and of their answers. A run is wrong unless it has met each that is wanted:
-//! among them, accepted pages as only versions before Change 6 left them, pages that only Change 6 lets be accepted, and
-//! both ends of what a word takes by the Inspect code.
+//! each answer of each entry on each size of page that it is met on; among them, accepted pages as only versions before
+//! Change 6 left them, pages that only Change 6 lets be accepted, both ends of what a word takes by the Inspect code, and
+//! pages of 512 bytes that only one of bytes 509 to 511 lets be refused.
+
+mod tail;
 
 use crate::answer::{number, pulses_in, value, Answer};
 use crate::call::{Call, Entry};
 use crate::case::Place;
 use crate::inspect::{walks, without_pairs, Step, WALK_ENDS};
 use crate::memory::Side;
-use crate::page::{words_of, Words, FILLED, FIRST_ROUND, INSPECTED, WORDS};
-use crate::word::{self, LAST_CELL, PULSES_MOST};
+use crate::page::{words_of, Words, FILLED, FIRST_ROUND, INSPECTED};
+use crate::shape::{Shape, LARGE, SMALL};
+use crate::word::{self, Cells, LAST_CELL, PULSES_MOST};
 use std::ops::RangeInclusive;
+use tail::Tails;
 
-/// The bits that refusal 8 of each entry must have named: the least and the most capacity of a page, and the least and the
-/// most that the walks of the Inspect code take.
-const ENDS: [(Entry, u64); 4] = [
-    (Entry::WriteSecond, 660),
-    (Entry::WriteSecond, 1_012),
-    (Entry::WriteInspect, 1_012),
-    (Entry::WriteInspect, 1_980),
+/// The bits that refusal 8 of each entry must have named: the least and the most capacity of a page of each size, and the
+/// least and the most that the walks of the Inspect code take.
+const ENDS: [(Entry, Shape, u64); 6] = [
+    (Entry::WriteSecond, SMALL, 660),
+    (Entry::WriteSecond, SMALL, 1_012),
+    (Entry::WriteSecond, LARGE, 1_320),
+    (Entry::WriteSecond, LARGE, 2_024),
+    (Entry::WriteInspect, SMALL, 1_012),
+    (Entry::WriteInspect, SMALL, 1_980),
 ];
 
 /// The pulses of a page of which fill page must have answered some: the least, the most, and between them each stretch
 /// of 256, which a sum in 8 bits would not tell from another.
-const PAGE_PULSES: [RangeInclusive<u64>; 6] = [0..=0, 1..=255, 256..=511, 512..=767, 768..=1_011, 1_012..=1_012];
+fn page_pulses(shape: Shape) -> Vec<RangeInclusive<u64>> {
+    let most = shape.pulses_most() as u64;
+    let stretch = |start: u64| start.max(1)..=(start + 255).min(most - 1);
+    let stretches = (0..most).step_by(256).map(stretch);
+    [0..=0].into_iter().chain(stretches).chain([most..=most]).collect()
+}
 
 /// What is wrong with a word that 7 names.
 #[derive(Clone, Copy, PartialEq, Eq)]
@@ -102,7 +114,7 @@ impl WordEnd {
 
     /// Whether a filled or second-round page of these words has it. That only the earlier fill set a cell is told from the
     /// words of the first-round page that it filled: by the page alone, the first data may have set it.
-    fn is_on(self, words: &Words, first: Option<&Words>) -> bool {
+    fn is_on(self, words: &[Cells], first: Option<&Words>) -> bool {
         match self {
             WordEnd::Earlier => {
                 first.is_some_and(|first| words.iter().zip(first).any(|(cells, legal)| earlier(cells, legal)))
@@ -117,6 +129,32 @@ impl WordEnd {
 fn earlier(cells: &word::Cells, legal: &word::Cells) -> bool {
     let separators = word::separators(cells);
     separators == word::filled_earlier(legal) && separators != word::filled(legal)
+}
+
+/// The shapes of pages, and none: for calls without a page, or with a page of neither size.
+const SIZES: [Option<Shape>; 3] = [Some(SMALL), Some(LARGE), None];
+
+/// The place in `SIZES` of the call's page.
+fn size_of(call: &Call) -> usize {
+    let shape = if call.entry.takes_page() { Shape::of(&call.page) } else { None };
+    size_number(shape)
+}
+
+/// The place in `SIZES`.
+fn size_number(shape: Option<Shape>) -> usize {
+    shape.map_or(2, Shape::number)
+}
+
+/// Every answer of the entry, 0 for acceptance, with the size of the page that it is met on: 1 on each size that the entry
+/// does not take, and every other answer on each that it does.
+fn answers(entry: Entry) -> Vec<(Option<Shape>, u8)> {
+    let all = [0].into_iter().chain(entry.refusals().iter().copied());
+    if !entry.takes_page() {
+        return all.map(|number| (None, number)).collect();
+    }
+    let taken = |shape: Option<Shape>| shape.is_some_and(|shape| entry.shapes().contains(&shape));
+    let on_size = |shape| all.clone().filter(move |&number| (number == 1) != taken(shape)).map(move |number| (shape, number));
+    SIZES.into_iter().flat_map(|shape| on_size(shape).filter(move |(_, number)| taken(shape) || *number == 1)).collect()
 }
 
 /// The states that page capacity serves, with their names.

@@ -572,7 +572,7 @@ mod tests {
     /// The page, and the same with a word that is sound in no state, 7's reason: in one of chosen words, and in all.
     fn with_bad_words(page: Vec<u8>) -> Vec<Vec<u8>> {
         let words = known_shape(&page).words;
-        // Cells 0 to 2 set: two neighbours; a data cell set; and a hole from cell 6 on.
+        // Cells 0 to 2 set: two neighbours; a data cell set; and a hole from cell 4 on.
         let bad = std::array::from_fn(|cell| cell < 3);
         let one = [0, 43, words - 1].map(|index| with_word(page.clone(), index, bad));
         let all = (0..words).fold(page.clone(), |page, index| with_word(page, index, bad));

@@ -1,4 +1,4 @@
-//! The fixed pages for the listing program and for the gain program, and pages of one kind.
+//! The fixed pages for the listing program and for the gain program, and pages of one kind: all of 256 bytes.
 
 use crate::cases::inspect::{any_inspect, first_taking_less, inspect_page, longest_of, RECORDS};
 use crate::cases::pages::*;
@@ -8,8 +8,9 @@ use crate::cases::words::{
 };
 use crate::inspect::INSPECT_BYTES_MOST;
 use crate::listing::{described, Kind};
-use crate::page::{data_cells_of, words_of, PAGE_BYTES, SECOND_BYTES_MOST, WORDS};
+use crate::page::{data_cells_of, words_of};
 use crate::random::Random;
+use crate::shape::SMALL;
 use crate::word::{legal_word, sum, Cells, CELLS};
 
 const LISTING_SEED: u64 = 4_096;
@@ -19,9 +20,9 @@ const ALIKE_SEED: u64 = 1_408;
 /// Pages of every kind and of every `bad` number, and a last piece of 255 bytes that lacks one byte of a valid page.
 pub fn listing_pages() -> Vec<u8> {
     let mut random = Random::new(LISTING_SEED);
-    let states = [0x02, 0x05, 0x0B, 0xFF].map(|state| with_byte(any_first(&mut random), 0, state));
-    let filled_states = [0x02, 0x13, 0x83].map(|state| with_byte(any_filled(&mut random), 0, state));
-    let last = vec![any_filled(&mut random)[..PAGE_BYTES - 1].to_vec()];
+    let states = [0x02, 0x05, 0x0B, 0xFF].map(|state| with_byte(any_first(&mut random, SMALL), 0, state));
+    let filled_states = [0x02, 0x13, 0x83].map(|state| with_byte(any_filled(&mut random, SMALL), 0, state));
+    let last = vec![any_filled(&mut random, SMALL)[..SMALL.bytes - 1].to_vec()];
     let kinds = [blanks, firsts, filleds, seconds, bad_firsts, bad_filleds, bad_seconds, both_fills, cells_45, lacking];
     let kinds = kinds.into_iter().chain([inspects, bad_inspects]);
     let pages: Vec<_> = kinds.map(|kind| kind(&mut random)).collect();
@@ -36,7 +37,7 @@ pub fn sheet_pages() -> Vec<u8> {
     let kinds = [blanks, firsts, filleds, seconds, seconds_of_80, bad_firsts, bad_filleds, bad_seconds, unknown_states];
     let kinds = kinds.into_iter().chain([both_fills, cells_45, lacking, inspects, bad_inspects]);
     let pages = kinds.flat_map(|kind| kind(&mut random)).collect();
-    let end = [blank(&mut random), first_page(&[0; WORDS])[..PAGE_BYTES - 1].to_vec()];
+    let end = [blank(&mut random, SMALL), page_of(SMALL, 0)[..SMALL.bytes - 1].to_vec()];
     [mixed(&mut random, pages), end.to_vec()].concat().concat()
 }
 
@@ -69,9 +70,9 @@ impl Alike {
 
     fn page(self, random: &mut Random) -> Vec<u8> {
         match self {
-            Alike::Listed(Kind::Blank) => blank(random),
-            Alike::Listed(Kind::First) => any_first(random),
-            Alike::Listed(Kind::Filled) => any_filled(random),
+            Alike::Listed(Kind::Blank) => blank(random, SMALL),
+            Alike::Listed(Kind::First) => any_first(random, SMALL),
+            Alike::Listed(Kind::Filled) => any_filled(random, SMALL),
             Alike::Listed(Kind::Second) => longest_second(random),
             Alike::Listed(Kind::Bad) => any_bad(random),
             Alike::Inspect => longest_inspect(),
@@ -87,21 +88,21 @@ pub fn alike(kind: Alike, count: usize) -> impl Iterator<Item = Vec<u8>> {
 
 /// The page of 176 zero bytes with a record of 247 zero bytes by the Inspect code.
 fn longest_inspect() -> Vec<u8> {
-    inspect_page(&first_page(&[0; WORDS]), &[0; INSPECT_BYTES_MOST])
+    inspect_page(&page_of(SMALL, 0), &[0; INSPECT_BYTES_MOST])
 }
 
 /// A second-round page with a record of 126 bytes.
 fn longest_second(random: &mut Random) -> Vec<u8> {
     let first = first_page(&roomy_values(random));
-    second_page(&first, &any_record(random, SECOND_BYTES_MOST))
+    second_page(&first, &any_record(random, SMALL.second_bytes_most))
 }
 
 /// The values of a first-round page that 126 bytes fit: its capacity is at most 4 below the most, 1,012.
-fn roomy_values(random: &mut Random) -> [u32; WORDS] {
-    let mut values = [(); WORDS].map(|()| even_value(random));
+fn roomy_values(random: &mut Random) -> Vec<u32> {
+    let mut values = drawn_values(random, SMALL, even_value);
     for _ in 0..random.between(0, 4) {
         // Cell 45 is set and has no data cell, so the word's capacity is 22.
-        values[random.below(WORDS)] = value_with_pulses(random.between(0, 22));
+        values[random.below(SMALL.words)] = value_with_pulses(random.between(0, 22));
     }
     values
 }
@@ -116,7 +117,7 @@ fn even_value(random: &mut Random) -> u32 {
 /// A page that the listing calls bad, for any reason.
 fn any_bad(random: &mut Random) -> Vec<u8> {
     loop {
-        let page = any_page(random);
+        let page = any_page(random, SMALL);
         if described(&page).kind == Kind::Bad {
             return page;
         }
@@ -125,45 +126,45 @@ fn any_bad(random: &mut Random) -> Vec<u8> {
 
 /// The blank page, and pages of state 00 with another byte set.
 fn blanks(random: &mut Random) -> Vec<Vec<u8>> {
-    let blank = blank(random);
-    let [first, filled] = [any_first, any_filled].map(|page| with_byte(page(random), 0, 0x00));
+    let blank = blank(random, SMALL);
+    let [first, filled] = [any_first, any_filled].map(|page| with_byte(page(random, SMALL), 0, 0x00));
     vec![blank.clone(), with_byte(blank.clone(), 1, 1), with_byte(blank, 255, 1), first, filled]
 }
 
 /// First-round pages: both capacity ends, and pages between.
 fn firsts(random: &mut Random) -> Vec<Vec<u8>> {
-    vec![first_page(&[0; WORDS]), first_page(&[SPARSE_VALUE; WORDS]), any_first(random), any_first(random)]
+    vec![page_of(SMALL, 0), page_of(SMALL, SPARSE_VALUE), any_first(random, SMALL), any_first(random, SMALL)]
 }
 
 /// Filled pages: both capacity ends, words whose ends touch, pages between, and one whose cells are also those of a
 /// first-round page.
 fn filleds(random: &mut Random) -> Vec<Vec<u8>> {
     let mut filled: Vec<_> = firsts(random).iter().map(|first| filled_page(first)).collect();
-    filled.push(filled_page(&first_page(&[EDGE_VALUE; WORDS])));
-    filled.push(with_byte(first_page(&[SPARSE_VALUE; WORDS]), 0, 0x03));
+    filled.push(filled_page(&page_of(SMALL, EDGE_VALUE)));
+    filled.push(with_byte(page_of(SMALL, SPARSE_VALUE), 0, 0x03));
     filled
 }
 
 /// Second-round pages with records of 0, 1, 82 and 126 bytes, and a filled page in their state.
 fn seconds(random: &mut Random) -> Vec<Vec<u8>> {
-    let (most, least) = (first_page(&[0; WORDS]), first_page(&[SPARSE_VALUE; WORDS]));
+    let (most, least) = (page_of(SMALL, 0), page_of(SMALL, SPARSE_VALUE));
     let mut seconds = [(&most, 0), (&most, 126), (&least, 0), (&least, 1), (&least, 82)]
         .map(|(first, length)| second_page(first, &random.bytes(length)))
         .to_vec();
-    seconds.push(with_byte(any_filled(random), 0, 0x07));
+    seconds.push(with_byte(any_filled(random, SMALL), 0, 0x07));
     seconds
 }
 
 /// Second-round pages with records of 80 bytes, over the most and the least capacity.
 fn seconds_of_80(random: &mut Random) -> Vec<Vec<u8>> {
-    [0, SPARSE_VALUE].map(|value| second_page(&first_page(&[value; WORDS]), &random.bytes(80))).to_vec()
+    [0, SPARSE_VALUE].map(|value| second_page(&page_of(SMALL, value), &random.bytes(80))).to_vec()
 }
 
 /// Pages that are valid but for an unknown state.
 fn unknown_states(random: &mut Random) -> Vec<Vec<u8>> {
     vec![
-        with_byte(any_first(random), 0, 0x02),
-        with_byte(any_filled(random), 0, 0x83),
+        with_byte(any_first(random, SMALL), 0, 0x02),
+        with_byte(any_filled(random, SMALL), 0, 0x83),
         with_byte(longest_second(random), 0, 0x0F),
     ]
 }
@@ -172,33 +173,33 @@ fn unknown_states(random: &mut Random) -> Vec<Vec<u8>> {
 fn bad_firsts(random: &mut Random) -> Vec<Vec<u8>> {
     let neighbours = with_neighbours(legal_word(any_value(random)), 44);
     let sum = sum_too_large(random);
-    let both = with_byte(with_word(any_first(random), 9, illegal(random)), 1, 1);
+    let both = with_byte(with_word(any_first(random, SMALL), 9, illegal(random)), 1, 1);
     vec![
-        with_byte(any_first(random), 1, 1),
-        with_byte(any_first(random), 2, 1),
+        with_byte(any_first(random, SMALL), 1, 1),
+        with_byte(any_first(random, SMALL), 2, 1),
         both,
-        with_word(any_first(random), 0, neighbours),
-        with_word(any_first(random), 43, sum),
-        with_byte(second_page(&first_page(&[0; WORDS]), &[]), 0, 0x01),
-        with_byte(filled_page(&first_page(&[0; WORDS])), 0, 0x01),
+        with_word(any_first(random, SMALL), 0, neighbours),
+        with_word(any_first(random, SMALL), 43, sum),
+        with_byte(second_page(&page_of(SMALL, 0), &[]), 0, 0x01),
+        with_byte(filled_page(&page_of(SMALL, 0)), 0, 0x01),
     ]
 }
 
 /// Pages of state 03 that are bad 6 and bad 7.
 fn bad_filleds(random: &mut Random) -> Vec<Vec<u8>> {
-    let most = filled_page(&first_page(&[0; WORDS]));
-    let headers = [(1, 1), (1, 126), (2, 1), (2, 0x80)].map(|(place, byte)| with_byte(any_filled(random), place, byte));
-    let both = with_byte(with_word(any_filled(random), 9, with_bare_hole(random, Hole::Middle)), 2, 1);
+    let most = filled_page(&page_of(SMALL, 0));
+    let headers = [(1, 1), (1, 126), (2, 1), (2, 0x80)].map(|(place, byte)| with_byte(any_filled(random, SMALL), place, byte));
+    let both = with_byte(with_word(any_filled(random, SMALL), 9, with_bare_hole(random, Hole::Middle)), 2, 1);
     let [start, end] = end_holes();
     let middle = with_bare_hole(random, Hole::Middle);
     let words = [(0, start), (20, middle), (43, end), (0, [false; CELLS]), (22, [true; CELLS])]
-        .map(|(index, damaged)| with_word(any_filled(random), index, damaged));
+        .map(|(index, damaged)| with_word(any_filled(random, SMALL), index, damaged));
     // The data cells of the first and of the last word, at their ends.
     let data = [0, 22, 23 * 43, 23 * 44 - 1].map(|place| with_data_cell(most.clone(), place));
     // The lower of two words counts, but the listing tells no index.
     let two = with_word(with_data_cell(most, 500), 43, end);
-    let first = with_byte(first_page(&[0; WORDS]), 0, 0x03);
-    let second = with_byte(second_page(&first_page(&[0; WORDS]), &[0xFF; 126]), 0, 0x03);
+    let first = with_byte(page_of(SMALL, 0), 0, 0x03);
+    let second = with_byte(second_page(&page_of(SMALL, 0), &[0xFF; 126]), 0, 0x03);
     let others = vec![both, two, first, with_byte(second.clone(), 1, 0), second];
     [&headers, &words[..], &data, &others].concat()
 }
@@ -214,12 +215,12 @@ fn end_holes() -> [Cells; 2] {
 fn bad_seconds(random: &mut Random) -> Vec<Vec<u8>> {
     let [start, end] = end_holes();
     let holes = [(0, start), (20, with_hole(random, Hole::Middle)), (43, end)]
-        .map(|(index, damaged)| with_word(any_second(random), index, damaged));
-    let full = second_page(&first_page(&[SPARSE_VALUE; WORDS]), &random.bytes(82));
+        .map(|(index, damaged)| with_word(any_second(random, SMALL), index, damaged));
+    let full = second_page(&page_of(SMALL, SPARSE_VALUE), &random.bytes(82));
     let last_cell = data_cells_of(&words_of(&full)).len() - 1;
     let bad = vec![
-        with_byte(any_second(random), 1, 127),
-        with_byte(any_second(random), 2, 0x80),
+        with_byte(any_second(random, SMALL), 1, 127),
+        with_byte(any_second(random, SMALL), 2, 0x80),
         with_byte(full.clone(), 1, 83),
         with_data_cell(full, last_cell),
     ];
@@ -229,8 +230,8 @@ fn bad_seconds(random: &mut Random) -> Vec<Vec<u8>> {
 /// Filled pages with open words, and second-round pages over them with the longest records and one of 40 bytes; and the
 /// same as versions before Change 6 left them.
 fn both_fills(random: &mut Random) -> Vec<Vec<u8>> {
-    let any = first_page(&[(); WORDS].map(|()| any_value(random)));
-    let firsts = [(first_page(&[3; WORDS]), 121), (first_page(&[OPEN_SPARSE_VALUE; WORDS]), 82), (any, 40)];
+    let any = first_page(&drawn_values(random, SMALL, any_value));
+    let firsts = [(page_of(SMALL, 3), 121), (page_of(SMALL, OPEN_SPARSE_VALUE), 82), (any, 40)];
     let mut pages = Vec::new();
     for ((first, length), fill) in firsts.iter().flat_map(|first| FILLINGS.map(|fill| (first, fill))) {
         let filled = fill(first);
@@ -247,37 +248,37 @@ fn both_fills(random: &mut Random) -> Vec<Vec<u8>> {
 fn cells_45(random: &mut Random) -> Vec<Vec<u8>> {
     let mut pages = Vec::new();
     for (value, index) in [(3, 0), (4, 43), (1, 0), (0, 43)] {
-        let filled = filled_page(&first_page(&[value; WORDS]));
+        let filled = filled_page(&page_of(SMALL, value));
         pages.push(with_cell_45_flipped(written_over(filled.clone(), &random.bytes(60)), index));
         pages.push(with_cell_45_flipped(filled, index));
     }
-    let filled = any_filled(random);
+    let filled = any_filled(random, SMALL);
     let second = written_over(filled.clone(), &random.bytes(60));
-    pages.extend([second, filled].map(|page| with_word(page, WORDS - 1, legal_word(OPEN_ODD_VALUE))));
+    pages.extend([second, filled].map(|page| with_word(page, SMALL.words - 1, legal_word(OPEN_ODD_VALUE))));
     pages
 }
 
 /// Filled pages of both fills that lack another cell of the fill than 45, in the first or the last word.
 fn lacking(random: &mut Random) -> Vec<Vec<u8>> {
-    let first = first_page(&[3; WORDS]);
-    let filled = [(filled_page(&first), 0), (filled_page_earlier(&first), WORDS - 1)];
+    let first = page_of(SMALL, 3);
+    let filled = [(filled_page(&first), 0), (filled_page_earlier(&first), SMALL.words - 1)];
     filled.map(|(filled, index)| without_separator(random, filled, index)).to_vec()
 }
 
 /// Pages of the Inspect code: records of zeros and of ones at the ends of what goes in, records that walk every bit of
 /// the page, records of other kinds, and a page with no record, but for its state a first-round page.
 fn inspects(random: &mut Random) -> Vec<Vec<u8>> {
-    let [most, sparse, odd] = [0, SPARSE_VALUE, ODD_VALUE].map(|value| first_page(&[value; WORDS]));
+    let [most, sparse, odd] = [0, SPARSE_VALUE, ODD_VALUE].map(|value| page_of(SMALL, value));
     let fixed = [(&most, 0, 0), (&most, 1, 0xFF), (&most, 126, 0xFF), (&most, 127, 0x00), (&most, 247, 0x00)];
     let others = [(&sparse, 165, 0x00), (&sparse, 126, 0xFF), (&odd, 126, 0x00), (&first_taking_less(4), 247, 0x00)];
     let fixed = fixed.into_iter().chain(others);
     let mut pages: Vec<_> = fixed.map(|(first, length, byte)| inspect_page(first, &vec![byte; length])).collect();
     for kind in RECORDS {
-        let first = any_first(random);
+        let first = any_first(random, SMALL);
         let record = kind(random, 127);
         pages.push(inspect_page(&first, &longest_of(&first, record)));
     }
-    pages.push(with_byte(any_first(random), 0, 0x09));
+    pages.push(with_byte(any_first(random, SMALL), 0, 0x09));
     pages
 }
 
@@ -286,19 +287,19 @@ fn inspects(random: &mut Random) -> Vec<Vec<u8>> {
 /// pages with two of these.
 fn bad_inspects(random: &mut Random) -> Vec<Vec<u8>> {
     let headers =
-        [(1, 248), (1, 255), (2, 1), (2, 0x80)].map(|(place, byte)| with_byte(any_inspect(random), place, byte));
+        [(1, 248), (1, 255), (2, 1), (2, 0x80)].map(|(place, byte)| with_byte(any_inspect(random, SMALL), place, byte));
     // The record of 20 zero bytes ends before cell 25 of word 3.
-    let zeros = inspect_page(&first_page(&[0; WORDS]), &[0; 20]);
+    let zeros = inspect_page(&page_of(SMALL, 0), &[0; 20]);
     let sum = sum_too_large(random);
     let sums = [0, 3, 4, 43].map(|index| with_word(zeros.clone(), index, sum));
     let neighbours = [(3, 25), (3, 44), (4, 0), (43, 44)];
     let pairs = neighbours.map(|(index, cell)| with_word(zeros.clone(), index, with_neighbours([false; CELLS], cell)));
-    let ones = with_byte(inspect_page(&first_page(&[0; WORDS]), &[0xFF; 126]), 1, 125);
+    let ones = with_byte(inspect_page(&page_of(SMALL, 0), &[0xFF; 126]), 1, 125);
     let one_bit = with_byte(inspect_page(&first_taking_less(5), &[0; 246]), 1, 247);
-    let more = with_byte(inspect_page(&first_page(&[SPARSE_VALUE; WORDS]), &[0; 165]), 1, 166);
+    let more = with_byte(inspect_page(&page_of(SMALL, SPARSE_VALUE), &[0; 165]), 1, 166);
     let sum_too = with_word(more.clone(), 43, sum);
     let header_too = with_byte(sum_too.clone(), 2, 1);
-    let filled = with_byte(filled_page(&first_page(&[0; WORDS])), 0, 0x09);
+    let filled = with_byte(filled_page(&page_of(SMALL, 0)), 0, 0x09);
     [&headers, &sums, &pairs, &[ones, one_bit, more, sum_too, header_too, filled][..]].concat()
 }
 
@@ -350,7 +351,7 @@ mod tests {
     #[test]
     fn pages_of_state_03() {
         let pages = listing_pages();
-        let filled = pages.chunks(PAGE_BYTES).filter(|piece| piece.len() == PAGE_BYTES && piece[0] == 0x03);
+        let filled = pages.chunks(SMALL.bytes).filter(|piece| piece.len() == SMALL.bytes && piece[0] == 0x03);
         let kinds: Vec<String> = filled.map(|page| listing(page).trim_end().to_string()).collect();
         let count = |kind: &str| kinds.iter().filter(|met| met.starts_with(kind)).count();
         assert_eq!((kinds.len(), count("0 filled"), count("0 bad 6"), count("0 bad 7")), (37, 15, 6, 16));
@@ -431,7 +432,7 @@ mod tests {
             let taken = |piece: &[u8], page| if among(piece[0]) { by_the_state(piece) } else { page };
             assert_ne!(gain_if(taken), GAIN, "{chosen}");
         }
-        let short = |piece: &[u8], page| if piece.len() < PAGE_BYTES { by_the_state(piece) } else { page };
+        let short = |piece: &[u8], page| if piece.len() < SMALL.bytes { by_the_state(piece) } else { page };
         assert_ne!(gain_if(short), GAIN);
     }
 
@@ -439,8 +440,8 @@ mod tests {
     #[test]
     fn the_last_piece_of_the_sheet() {
         let pages = sheet_pages();
-        let (whole, last) = pages.split_at(117 * PAGE_BYTES);
-        assert_eq!((last.len(), whole.ends_with(&[0])), (PAGE_BYTES - 1, true));
+        let (whole, last) = pages.split_at(117 * SMALL.bytes);
+        assert_eq!((last.len(), whole.ends_with(&[0])), (SMALL.bytes - 1, true));
         assert_eq!(described(&[last, &[0]].concat()), Described { kind: Kind::First, number: 1_012 });
     }
 
@@ -448,7 +449,7 @@ mod tests {
     fn pages_of_one_kind() {
         for kind in Kind::ALL {
             let pages: Vec<_> = alike(Alike::Listed(kind), 300).collect();
-            assert!(pages.iter().all(|page| page.len() == PAGE_BYTES && described(page).kind == kind));
+            assert!(pages.iter().all(|page| page.len() == SMALL.bytes && described(page).kind == kind));
             let different = HashSet::<&Vec<u8>>::from_iter(&pages).len();
             assert!(if kind == Kind::Blank { different == 1 } else { different > 200 }, "{kind:?} {different}");
         }
@@ -465,7 +466,7 @@ mod tests {
     #[test]
     fn pages_of_the_inspect_code_with_the_longest_record() {
         let kind = Alike::named("inspect").expect("a name");
-        let page = inspect_page(&first_page(&[0; WORDS]), &[0; 247]);
+        let page = inspect_page(&page_of(SMALL, 0), &[0; 247]);
         assert_eq!(alike(kind, 3).collect::<Vec<_>>(), [&page[..]; 3]);
         assert_eq!(described(&page), Described { kind: Kind::Second, number: 247 });
         assert_eq!(gain(described(&page)), 1_336);
@@ -476,7 +477,7 @@ mod tests {
     #[test]
     fn pages_of_state_09() {
         let pages = listing_pages();
-        let inspected = pages.chunks(PAGE_BYTES).filter(|piece| piece.len() == PAGE_BYTES && piece[0] == 0x09);
+        let inspected = pages.chunks(SMALL.bytes).filter(|piece| piece.len() == SMALL.bytes && piece[0] == 0x09);
         let met: Vec<_> = inspected.map(|page| (page[1], page[2], described(page).to_string())).collect();
         for length in [0, 126, 127, 247] {
             assert!(met.contains(&(length, 0, format!("second {length}"))), "{length}");

@@ -1,20 +1,22 @@
 //! The fixed calls of the vectors, and their two files.
 
 mod inspect;
+mod large;
 
 use crate::answer::{number, value};
 use crate::call::{Call, Entry};
 use crate::cases::damage::{any_word_call, choices, combined};
 use crate::cases::files::CONTENTS;
-use crate::cases::lengths::{resized, FAR_RECORD_LENGTHS, WRONG_PAGE_LENGTHS};
+use crate::cases::lengths::{resized, wrong_page_lengths, FAR_RECORD_LENGTHS};
 use crate::cases::pages::*;
 use crate::cases::words::{
     any_value, sum_too_large, value_with_pulses, with_bare_hole, with_hole, with_neighbours, with_one_data_cell, Hole,
     EDGE_VALUE, END_VALUES, LISTED_VALUES, ODD_VALUE, OPEN_ODD_VALUE, OPEN_SPARSE_VALUE, SPARSE_VALUE,
 };
 use crate::file::file_bytes;
-use crate::page::{data_cells_of, words_of, FIRST_BYTES, PAGE_BYTES, WORDS};
+use crate::page::{data_cells_of, words_of};
 use crate::random::Random;
+use crate::shape::{Shape, SMALL};
 use crate::word::{cells_with_sum, legal_word, number_of, CELLS, LARGEST_SUM, LARGEST_VALUE};
 use std::fmt::Write;
 
@@ -52,7 +54,7 @@ fn end_calls() -> Vec<Call> {
     script.calls
 }
 
-/// All calls of the vectors; those of the Inspect code come last.
+/// All calls of the vectors; after those of the Inspect code come those with pages of 512 bytes.
 pub fn calls() -> Vec<Call> {
     let mut script = Script { random: Random::new(SEED), calls: Vec::new() };
     script.listed_words();
@@ -84,6 +86,7 @@ pub fn calls() -> Vec<Call> {
     script.pages_lengths();
     script.calls.splice(before_the_files..before_the_files, end_calls());
     script.calls.extend(inspect::calls());
+    script.calls.extend(large::calls());
     script.calls
 }
 
@@ -109,8 +112,9 @@ impl Script {
 
     /// Writes the values on a blank page, reads them back into an output of this length, and measures the page; returns
     /// the page.
-    fn first_round(&mut self, values: &[u32; WORDS], output: usize) -> Vec<u8> {
-        let first = self.page(Entry::WriteFirst, &[0; PAGE_BYTES], first_record(values));
+    fn first_round(&mut self, values: &[u32], output: usize) -> Vec<u8> {
+        let blank = vec![0; Shape::with_words(values.len()).bytes];
+        let first = self.page(Entry::WriteFirst, &blank, first_record(values));
         self.page_with(Entry::ReadFirst, &first, output);
         self.page_with(Entry::PageCapacity, &first, 0);
         first
@@ -157,34 +161,43 @@ impl Script {
 
     /// Every unmarked value of document 01's list.
     fn listed_pages(&mut self) {
-        for (value, most) in [(0, 126), (SPARSE_VALUE, 82)] {
-            let first = self.first_round(&[value; WORDS], FIRST_BYTES);
-            let filled = self.filling(&first);
-            for record in [vec![0xFF; most], vec![0xFF; most + 1], Vec::new(), vec![0]] {
-                let length = record.len();
-                let after = self.page(Entry::WriteSecond, &filled, record);
-                self.page_with(Entry::ReadSecond, &after, length);
-            }
+        [(0, 126), (SPARSE_VALUE, 82)].into_iter().for_each(|(value, most)| self.listed_page(SMALL, value, most));
+    }
+
+    /// The page of this value in each word: over it go `most` bytes, but not one more, and none and one zero byte.
+    fn listed_page(&mut self, shape: Shape, value: u32, most: usize) {
+        let first = self.first_round(&vec![value; shape.words], shape.first_bytes);
+        let filled = self.filling(&first);
+        for record in [vec![0xFF; most], vec![0xFF; most + 1], Vec::new(), vec![0]] {
+            let length = record.len();
+            let after = self.page(Entry::WriteSecond, &filled, record);
+            self.page_with(Entry::ReadSecond, &after, length);
         }
     }
 
     /// Pages of any values through both rounds, with records and outputs of every length class.
     fn both_rounds(&mut self) {
         for turn in 0..20 {
-            let values = if turn == 0 { [EDGE_VALUE; WORDS] } else { any_values(&mut self.random) };
-            let first = self.first_round(&values, FIRST_BYTES + turn % 3);
-            let most = most_bytes(&first);
-            let length = [most, 0, 1, most - 1, self.random.between(2, most)][turn % 5];
-            self.second_round(&first, length, [length, length + 1, 126 + turn][turn % 3]);
+            let edges = vec![EDGE_VALUE; SMALL.words];
+            let values = if turn == 0 { edges } else { any_values(&mut self.random, SMALL) };
+            self.rounds_of(&values, turn);
         }
+    }
+
+    /// The page of these values through both rounds, with a record and outputs of a length class by turns.
+    fn rounds_of(&mut self, values: &[u32], turn: usize) {
+        let shape = Shape::with_words(values.len());
+        let first = self.first_round(values, shape.first_bytes + turn % 3);
+        let most = most_bytes(&first);
+        let length = [most, 0, 1, most - 1, self.random.between(2, most)][turn % 5];
+        self.second_round(&first, length, [length, length + 1, shape.second_bytes_most + turn][turn % 3]);
     }
 
     /// Capacities from the most to the least: the longest record that fits, and one byte more.
     fn capacities(&mut self) {
         for sparse in [1, 5, 11, 22, 33, 43] {
-            let values =
-                std::array::from_fn(|index| if index * 7 % WORDS < sparse { SPARSE_VALUE } else { index as u32 });
-            let first = first_page(&values);
+            let value = |index: usize| if index * 7 % SMALL.words < sparse { SPARSE_VALUE } else { index as u32 };
+            let first = first_page(&(0..SMALL.words).map(value).collect::<Vec<u32>>());
             let most = most_bytes(&first);
             let filled = self.filling(&first);
             self.page_with(Entry::WriteSecond, &filled, most + 1);
@@ -195,7 +208,7 @@ impl Script {
     /// Records about the ends of what fits, over the least and the most capacity, and records that leave no data cell.
     fn record_lengths(&mut self) {
         for value in [SPARSE_VALUE, 0] {
-            let filled = filled_page(&first_page(&[value; WORDS]));
+            let filled = filled_page(&page_of(SMALL, value));
             for length in [0, 1, 82, 83, 126, 127] {
                 self.page_with(Entry::WriteSecond, &filled, length);
             }
@@ -206,17 +219,23 @@ impl Script {
     /// Capacities of 1,008 and of 688 bits, which a record of 126 and of 86 bytes takes whole.
     fn exact_fits(&mut self) {
         for (value, most) in [(0, 126), (SPARSE_VALUE, 86)] {
-            let first = first_page(&std::array::from_fn(|index| if index % 11 == 5 { 1 } else { value }));
-            let filled = filled_page(&first);
-            self.writing(&filled, most, most);
-            self.page_with(Entry::WriteSecond, &filled, most + 1);
+            self.exact_fit(SMALL, value, most);
         }
+    }
+
+    /// This value in each word but every 11th, which has value 1: the longest record leaves no data cell.
+    fn exact_fit(&mut self, shape: Shape, value: u32, most: usize) {
+        let mut values = vec![value; shape.words];
+        values.iter_mut().skip(5).step_by(11).for_each(|other| *other = 1);
+        let filled = filled_page(&first_page(&values));
+        self.writing(&filled, most, most);
+        self.page_with(Entry::WriteSecond, &filled, most + 1);
     }
 
     /// Records far too long.
     fn far_records(&mut self) {
         for length in FAR_RECORD_LENGTHS.into_iter().filter(|&length| length <= LENGTH_MOST) {
-            let filled = any_filled(&mut self.random);
+            let filled = any_filled(&mut self.random, SMALL);
             self.page_with(Entry::WriteSecond, &filled, length);
         }
     }
@@ -224,7 +243,7 @@ impl Script {
     /// Neighbours and sums too large, in chosen words; the lowest of two such words counts.
     fn illegal_words(&mut self) {
         for index in INDICES {
-            let first = any_first(&mut self.random);
+            let first = any_first(&mut self.random, SMALL);
             let cells = words_of(&first)[index];
             // A pair that lies in two bytes.
             let byte_edge = (0..CELLS - 1).find(|cell| (CELLS * index + cell) % 8 == 7).expect("a word has byte edges");
@@ -233,9 +252,9 @@ impl Script {
             for (turn, damaged) in pairs.into_iter().chain(sums).enumerate() {
                 let page = with_word(first.clone(), index, damaged);
                 let entry = OF_FIRST_PAGES[(turn + index) % 3];
-                self.page_with(entry, &page, if entry == Entry::ReadFirst { FIRST_BYTES } else { 20 });
+                self.page_with(entry, &page, if entry == Entry::ReadFirst { SMALL.first_bytes } else { 20 });
                 if turn == 1 {
-                    let two = with_word(page, WORDS - 1, sum_too_large(&mut self.random));
+                    let two = with_word(page, SMALL.words - 1, sum_too_large(&mut self.random));
                     self.page_with(Entry::PageCapacity, &two, 0);
                 }
             }
@@ -245,7 +264,7 @@ impl Script {
     /// Holes at the start, in the middle and at the end of chosen words.
     fn holes(&mut self) {
         for (index, hole) in INDICES.into_iter().flat_map(|index| Hole::ALL.map(|hole| (index, hole))) {
-            let second = any_second(&mut self.random);
+            let second = any_second(&mut self.random, SMALL);
             let damaged = with_hole(&mut self.random, hole);
             self.page_with(Entry::ReadSecond, &with_word(second, index, damaged), 126);
         }
@@ -255,7 +274,7 @@ impl Script {
     /// first or last data cell set.
     fn flaws(&mut self) {
         for (turn, index) in INDICES.into_iter().enumerate() {
-            let filled = any_filled(&mut self.random);
+            let filled = any_filled(&mut self.random, SMALL);
             let holes = Hole::ALL.map(|hole| with_bare_hole(&mut self.random, hole));
             let hole_and_data = with_hole(&mut self.random, Hole::Middle);
             let data = [with_one_data_cell(&mut self.random), [true; CELLS]];
@@ -274,7 +293,7 @@ impl Script {
     fn two_flaws(&mut self) {
         for (turn, (hole, written)) in [(0, 1), (1, 0), (42, 43), (43, 42)].into_iter().enumerate() {
             let bare_hole = with_bare_hole(&mut self.random, Hole::ALL[turn % 3]);
-            let page = with_word(any_filled(&mut self.random), hole, bare_hole);
+            let page = with_word(any_filled(&mut self.random, SMALL), hole, bare_hole);
             let page = with_word(page, written, with_one_data_cell(&mut self.random));
             Entry::OF_FILLED_PAGES.into_iter().for_each(|entry| self.page_with(entry, &page, 20));
         }
@@ -283,12 +302,12 @@ impl Script {
     /// Pages with one bit flipped.
     fn flips(&mut self) {
         for turn in 0..14 {
-            let bit = self.random.between(24, 8 * PAGE_BYTES - 1);
-            let first = with_flip(any_first(&mut self.random), bit);
+            let bit = self.random.between(24, 8 * SMALL.bytes - 1);
+            let first = with_flip(any_first(&mut self.random, SMALL), bit);
             self.page_with(OF_FIRST_PAGES[turn % 3], &first, 30);
-            let filled = with_flip(any_filled(&mut self.random), bit);
+            let filled = with_flip(any_filled(&mut self.random, SMALL), bit);
             self.page_with(Entry::OF_FILLED_PAGES[turn % 2], &filled, 30);
-            let second = with_flip(any_second(&mut self.random), bit);
+            let second = with_flip(any_second(&mut self.random, SMALL), bit);
             self.page_with(Entry::ReadSecond, &second, 126);
         }
     }
@@ -296,7 +315,7 @@ impl Script {
     /// Too few data cells, and spare data cells set: the first, the last and one between.
     fn data_cells(&mut self) {
         for (value, length) in [(SPARSE_VALUE, 82), (SPARSE_VALUE, 0), (243, 1), (EDGE_VALUE, 50), (0, 126)] {
-            let first = first_page(&[value; WORDS]);
+            let first = page_of(SMALL, value);
             let second = second_page(&first, &self.random.bytes(length));
             let found = data_cells_of(&words_of(&second)).len();
             for spare in [8 * length, (8 * length + found) / 2, found - 1] {
@@ -312,15 +331,15 @@ impl Script {
         let states = [(0, 0x00), (0, 0x02), (0, 0x06), (0, 0x81), (0, 0xFF)];
         let header_bytes = [(1, 1), (1, 126), (1, 127), (1, 255), (2, 1), (2, 128)];
         for (place, byte) in states.into_iter().chain(header_bytes) {
-            let first = with_byte(any_first(&mut self.random), place, byte);
+            let first = with_byte(any_first(&mut self.random, SMALL), place, byte);
             for entry in OF_FIRST_PAGES {
                 self.page_with(entry, &first, 9);
             }
-            let filled = with_byte(any_filled(&mut self.random), place, byte);
+            let filled = with_byte(any_filled(&mut self.random, SMALL), place, byte);
             for entry in Entry::OF_FILLED_PAGES {
                 self.page_with(entry, &filled, 9);
             }
-            let second = with_byte(any_second(&mut self.random), place, byte);
+            let second = with_byte(any_second(&mut self.random, SMALL), place, byte);
             self.page_with(Entry::ReadSecond, &second, 126);
         }
     }
@@ -328,25 +347,25 @@ impl Script {
     /// Pages that are not blank, by one byte.
     fn not_blank(&mut self) {
         for place in [0, 1, 2, 3, 255] {
-            let page = with_byte(vec![0; PAGE_BYTES], place, self.random.byte_from(1));
-            self.page_with(Entry::WriteFirst, &page, FIRST_BYTES);
+            let page = with_byte(vec![0; SMALL.bytes], place, self.random.byte_from(1));
+            self.page_with(Entry::WriteFirst, &page, SMALL.first_bytes);
         }
     }
 
     /// Valid pages of another state than the entry's.
     fn other_rounds(&mut self) {
-        let pages = [blank, any_first, any_filled, any_second].map(|page| page(&mut self.random));
+        let pages = [blank, any_first, any_filled, any_second].map(|page| page(&mut self.random, SMALL));
         let entries = Entry::OF_PAGES.into_iter().filter(|entry| !Entry::OF_INSPECT.contains(entry));
         for (entry, page) in entries.flat_map(|entry| pages.iter().map(move |page| (entry, page))) {
             if !entry.states().contains(&page[0]) {
-                self.page_with(entry, page, if entry == Entry::WriteSecond { 1 } else { FIRST_BYTES });
+                self.page_with(entry, page, if entry == Entry::WriteSecond { 1 } else { SMALL.first_bytes });
             }
         }
     }
 
     /// Cells that are sound in states 01, 03 and 07 alike, so that the state alone decides.
     fn alike_pages(&mut self) {
-        let first = first_page(&std::array::from_fn(|index| [SPARSE_VALUE, ODD_VALUE][index % 2]));
+        let first = first_page(&by_turns(SMALL, &[SPARSE_VALUE, ODD_VALUE]));
         for state in [0x00, 0x01, 0x02, 0x03, 0x07] {
             let page = with_byte(first.clone(), 0, state);
             for entry in [Entry::PageCapacity, Entry::FillPage, Entry::WriteSecond, Entry::ReadSecond] {
@@ -357,34 +376,34 @@ impl Script {
 
     /// Wrong lengths of the page.
     fn page_lengths(&mut self) {
-        for length in WRONG_PAGE_LENGTHS {
+        for length in wrong_page_lengths(Entry::WriteFirst) {
             for entry in OF_FIRST_PAGES {
-                let first = any_first(&mut self.random);
+                let first = any_first(&mut self.random, SMALL);
                 let page = resized(&mut self.random, first, length);
                 self.page_with(entry, &page, 11);
             }
             for entry in Entry::OF_FILLED_PAGES {
-                let filled = any_filled(&mut self.random);
+                let filled = any_filled(&mut self.random, SMALL);
                 let page = resized(&mut self.random, filled, length);
                 self.page_with(entry, &page, length % 3);
             }
-            let second = any_second(&mut self.random);
+            let second = any_second(&mut self.random, SMALL);
             let page = resized(&mut self.random, second, length);
             self.page_with(Entry::ReadSecond, &page, 126);
-            self.page_with(Entry::WriteFirst, &vec![0; length], FIRST_BYTES);
+            self.page_with(Entry::WriteFirst, &vec![0; length], SMALL.first_bytes);
         }
     }
 
     /// Wrong lengths of the data.
     fn data_lengths(&mut self) {
-        for length in [0, 4, 175, 177, 352] {
-            self.page_with(Entry::WriteFirst, &[0; PAGE_BYTES], length);
+        for length in [0, 4, 175, 177, 351, 352, 353] {
+            self.page_with(Entry::WriteFirst, &[0; SMALL.bytes], length);
         }
     }
 
     /// Outputs of read first: one short, exact and longer.
     fn first_outputs(&mut self) {
-        let first = any_first(&mut self.random);
+        let first = any_first(&mut self.random, SMALL);
         for length in [0, 1, 175, 176, 177, 300] {
             self.page_with(Entry::ReadFirst, &first, length);
         }
@@ -393,7 +412,7 @@ impl Script {
     /// Outputs of read second: one short, exact and longer.
     fn second_outputs(&mut self) {
         for (record, outputs) in [(0, [0, 1, 126]), (1, [0, 1, 2]), (82, [81, 82, 83]), (126, [125, 126, 180])] {
-            let second = second_page(&first_page(&[2; WORDS]), &self.random.bytes(record));
+            let second = second_page(&page_of(SMALL, 2), &self.random.bytes(record));
             for length in outputs {
                 self.page_with(Entry::ReadSecond, &second, length);
             }
@@ -401,9 +420,9 @@ impl Script {
     }
 
     /// Every choice of the entry's conditions at once, so that the order of refusals shows.
-    fn orders_of(&mut self, entry: Entry) {
+    fn orders_of(&mut self, entry: Entry, shape: Shape) {
         for chosen in 0..choices(entry) {
-            let call = combined(&mut self.random, entry, chosen);
+            let call = combined(&mut self.random, entry, chosen, shape);
             self.add(call);
         }
     }
@@ -411,7 +430,7 @@ impl Script {
     /// The orders of every entry but write file and those of the Inspect code, whose calls come last.
     fn orders(&mut self) {
         let later = |entry: &Entry| *entry == Entry::WriteFile || Entry::OF_INSPECT.contains(entry);
-        Entry::ALL.into_iter().filter(|entry| !later(entry)).for_each(|entry| self.orders_of(entry));
+        Entry::ALL.into_iter().filter(|entry| !later(entry)).for_each(|entry| self.orders_of(entry, SMALL));
     }
 
     /// Values at the ends and anywhere, and words of every kind.
@@ -429,8 +448,7 @@ impl Script {
     /// The value of cell 0 alone and its neighbours: each by itself, and all on one page through both rounds.
     fn cell_0_values(&mut self) {
         CELL_0_VALUES.into_iter().for_each(|value| self.value(value));
-        let values = std::array::from_fn(|index| CELL_0_VALUES[index % CELL_0_VALUES.len()]);
-        let first = self.first_round(&values, FIRST_BYTES);
+        let first = self.first_round(&by_turns(SMALL, &CELL_0_VALUES), SMALL.first_bytes);
         let most = most_bytes(&first);
         self.second_round(&first, most, most);
     }
@@ -442,7 +460,7 @@ impl Script {
             self.add(Call::of_word(Entry::FillWord, number_of(&legal_word(value_with_pulses(pulses)))));
         }
         for (index, pulses) in [(0, 23), (21, 1), (43, 12)] {
-            let values = with_value([SPARSE_VALUE; WORDS], index, value_with_pulses(pulses));
+            let values = with_value(vec![SPARSE_VALUE; SMALL.words], index, value_with_pulses(pulses));
             self.page(Entry::FillPage, &first_page(&values), Vec::new());
         }
     }
@@ -450,10 +468,11 @@ impl Script {
     /// First-round pages on which the earlier fill sets a cell 45 that the fill leaves at 0: in all words, with a middle and
     /// with the least capacity, in the last word alone, and in some words.
     fn firsts_with_open_words(&mut self) -> [Vec<u8>; 5] {
-        let last = with_value([SPARSE_VALUE; WORDS], WORDS - 1, OPEN_ODD_VALUE);
-        let ends = std::array::from_fn(|index| END_VALUES[index % END_VALUES.len()]);
-        let any = [(); WORDS].map(|()| self.random.draw() as u32);
-        [[3; WORDS], [OPEN_SPARSE_VALUE; WORDS], last, ends, any].map(|values| first_page(&values))
+        let last = with_value(vec![SPARSE_VALUE; SMALL.words], SMALL.words - 1, OPEN_ODD_VALUE);
+        let ends = by_turns(SMALL, &END_VALUES);
+        let any = drawn_values(&mut self.random, SMALL, any_bits);
+        let [middle, least] = [3, OPEN_SPARSE_VALUE].map(|value| vec![value; SMALL.words]);
+        [middle, least, last, ends, any].map(|values| first_page(&values))
     }
 
     /// Pages as versions before Change 6 left them: they are measured, beside the pages that the fill leaves; a record
@@ -485,7 +504,7 @@ impl Script {
     fn cells_45(&mut self) {
         for (turn, index) in INDICES.into_iter().enumerate() {
             for end in 0..END_VALUES.len() {
-                let first = first_page(&with_value(any_values(&mut self.random), index, END_VALUES[end]));
+                let first = first_page(&with_value(any_values(&mut self.random, SMALL), index, END_VALUES[end]));
                 let filled = FILLINGS[(turn + end) % 2](&first);
                 let second = written_over(filled.clone(), &self.random.bytes(20));
                 let entry = if turn == end { Entry::WriteSecond } else { Entry::PageCapacity };
@@ -499,7 +518,7 @@ impl Script {
     /// record of zeros.
     fn lacking(&mut self) {
         for (turn, index) in INDICES.into_iter().enumerate() {
-            let first = any_first(&mut self.random);
+            let first = any_first(&mut self.random, SMALL);
             for filled in FILLINGS.map(|fill| fill(&first)) {
                 let page = without_separator(&mut self.random, filled, index);
                 self.page_with(Entry::PageCapacity, &page, 0);
@@ -513,7 +532,7 @@ impl Script {
 
     /// Cells that are sound in states 01, 03 and 07 alike, with open words: the state alone decides.
     fn open_pages(&mut self) {
-        let first = first_page(&std::array::from_fn(|index| [OPEN_SPARSE_VALUE, OPEN_ODD_VALUE][index % 2]));
+        let first = first_page(&by_turns(SMALL, &[OPEN_SPARSE_VALUE, OPEN_ODD_VALUE]));
         for state in [0x01, 0x03, 0x07] {
             let page = with_byte(first.clone(), 0, state);
             for entry in [Entry::PageCapacity, Entry::FillPage, Entry::WriteSecond, Entry::ReadSecond] {
@@ -537,10 +556,10 @@ impl Script {
             let devices = [0, 0x0102_0304, u32::MAX, self.random.draw() as u32];
             let exact = file_bytes(count);
             for (turn, length) in [exact, exact + 1 + 60 * count, exact - 1, 0].into_iter().enumerate() {
-                self.file(devices[(turn + count) % 4], PAGE_BYTES * count, length);
+                self.file(devices[(turn + count) % 4], SMALL.bytes * count, length);
             }
         }
-        self.file(1, 4 * PAGE_BYTES, LENGTH_MOST);
+        self.file(1, 4 * SMALL.bytes, LENGTH_MOST);
     }
 
     /// Pages of a length that is no multiple of 256, with outputs long enough for the whole pages, and too short.
@@ -593,7 +612,7 @@ pub fn text_of(calls: &[Call]) -> String {
 mod tests {
     use super::*;
     use crate::answer::{pulses_in, Answer, Refusal};
-    use crate::page::{page_capacity, FILLED, FIRST_ROUND};
+    use crate::page::{page_capacity, Words, FILLED, FIRST_ROUND};
     use crate::word::{pulses, read_back, separators, separators_from, unwritten, well_formed, Cells, PULSES_MOST};
     use std::collections::HashSet;
     use std::sync::OnceLock;
@@ -604,7 +623,7 @@ mod tests {
         assert_eq!(calls.len(), 1_588);
         assert!(text_of(&calls).len() < 420_000);
         assert!(calls.iter().all(|call| call.page.len().max(call.other.len()) <= LENGTH_MOST));
-        let pages: HashSet<_> = calls.iter().map(|call| &call.page).filter(|page| page.len() == PAGE_BYTES).collect();
+        let pages: HashSet<_> = calls.iter().map(|call| &call.page).filter(|page| page.len() == SMALL.bytes).collect();
         assert_eq!(pages.len(), 913);
     }
 
@@ -708,7 +727,7 @@ mod tests {
 
     /// The words of a first-round page that take pulses, with how many.
     fn words_with_pulses(call: &Call) -> Vec<(usize, usize)> {
-        let words = if call.page.len() == PAGE_BYTES { words_of(&call.page).to_vec() } else { Vec::new() };
+        let words = if call.page.len() == SMALL.bytes { words_of(&call.page) } else { Vec::new() };
         let taken = words.iter().map(pulses).enumerate();
         taken.filter(|(_, pulses)| *pulses > 0).collect()
     }
@@ -717,7 +736,7 @@ mod tests {
     fn both_ends_of_page_pulses() {
         let met = met(Entry::FillPage, |call| call.page.clone());
         for (value, pulses) in [(SPARSE_VALUE, 0), (0, 1_012)] {
-            assert!(met.contains(&(first_page(&[value; WORDS]), Ok(pulses))), "never {pulses} pulses");
+            assert!(met.contains(&(page_of(SMALL, value), Ok(pulses))), "never {pulses} pulses");
         }
     }
 
@@ -728,7 +747,7 @@ mod tests {
         for (index, pulses) in [(0, 23), (21, 1), (43, 12)] {
             assert!(met.contains(&(vec![(index, pulses)], Ok(pulses as u64))), "word {index} never alone");
         }
-        let some = met.iter().filter(|(words, answer)| answer.is_ok() && (2..WORDS).contains(&words.len()));
+        let some = met.iter().filter(|(words, answer)| answer.is_ok() && (2..SMALL.words).contains(&words.len()));
         let sums: HashSet<u64> = some.filter_map(|(_, answer)| answer.ok()).collect();
         assert!(sums.len() > 5, "{sums:?}");
     }
@@ -751,9 +770,9 @@ mod tests {
         let met = met(Entry::WriteSecond, |call| (call.page.len(), call.other.len()));
         let least = [(0, Ok(0)), (1, Ok(0)), (82, Ok(0)), (83, Err(Refusal::record_length(660)))];
         let most = [(83, Ok(0)), (126, Ok(0)), (127, Err(Refusal::record_length(1_012)))];
-        let over_pages = least.into_iter().chain(most).map(|(length, answer)| ((PAGE_BYTES, length), answer));
+        let over_pages = least.into_iter().chain(most).map(|(length, answer)| ((SMALL.bytes, length), answer));
         let exact = [(127, 1_008), (87, 688)];
-        let exact = exact.map(|(length, capacity)| ((PAGE_BYTES, length), Err(Refusal::record_length(capacity))));
+        let exact = exact.map(|(length, capacity)| ((SMALL.bytes, length), Err(Refusal::record_length(capacity))));
         for one in over_pages.chain(exact).chain([((0, 0), Err(Refusal::PAGE_LENGTH))]) {
             assert!(met.contains(&one), "never {one:?}");
         }
@@ -772,7 +791,7 @@ mod tests {
 
     /// The words of a filled page that are not unwritten: whether each is well formed, and how many data cells are set.
     fn flaws(call: &Call) -> Vec<(bool, usize)> {
-        if call.page.len() != PAGE_BYTES || call.page[0] != FILLED {
+        if call.page.len() != SMALL.bytes || call.page[0] != FILLED {
             return Vec::new();
         }
         let set = |cells: &Cells| read_back(cells).into_iter().filter(|&cell| cells[cell]).count();
@@ -806,8 +825,8 @@ mod tests {
 
     /// Whether the page has a word that is as the earlier fill left it, and not as the fill leaves it.
     fn of_the_earlier_fill(call: &Call) -> bool {
-        let Some(first) = call.first.as_ref().filter(|_| call.page.len() == PAGE_BYTES) else { return false };
-        let words = words_of(&call.page).map(|cells| separators(&cells));
+        let Some(first) = call.first.as_ref().filter(|_| call.page.len() == SMALL.bytes) else { return false };
+        let words: Words = words_of(&call.page).iter().map(separators).collect();
         words == words_of(&filled_page_earlier(first)) && words != words_of(&filled_page(first))
     }
 
@@ -841,7 +860,7 @@ mod tests {
 
     /// The separators from cell 42 on of each word of a filled or second-round page.
     fn ends(call: &Call) -> Vec<Vec<usize>> {
-        if call.page.len() != PAGE_BYTES || call.page[0] == FIRST_ROUND {
+        if call.page.len() != SMALL.bytes || call.page[0] == FIRST_ROUND {
             return Vec::new();
         }
         words_of(&call.page).iter().map(|cells| separators_from(cells, 42)).collect()

@@ -1,160 +1,233 @@
--- `second::read_second` meets its contract: each test answers as the definition does, in its order, and the record is copied from what was
--- gathered. Assumes nothing.
+-- `second::read_second` meets its contract: each test answers as the definition does for the page's own shape, in its order, and the record is
+-- copied from what was gathered. Assumes nothing.
 mod SecondChecks
 use mathlib.Core.List.{List}
-use mathlib.Core.Logic.{inl, inr}
-use mathlib.Core.Path.{refl, ap, _∙_}
-use Prim.Native.Nat.{ℕ}
+use mathlib.Core.Path.{_≡_, refl, sym, ap, _∙_, subst}
+use Prim.Native.Nat.{ℕ, _≤_}
 use native.Mathlib.Omega.{arith}
 use borrow.Author.Needs.{needs}
 use Rattle.cells.specs.Bytes.{atStart}
+use Rattle.answer.specs.Answer.{Answer, answer, after}
 use Rattle.answer.proofs.Chains.{both-refused, both-done}
 use Rattle.word.specs.Fill.{wellFormed}
-use Rattle.rows.specs.Page.{page256}
-use Rattle.rows.specs.Code.{fillCode}
+use Rattle.rows.specs.declared.shape.Shape.{Shape}
+use Rattle.rows.specs.Page.{shapeOf, recordLength}
+use Rattle.rows.specs.Code.{fillCode, recordOf}
+use Rattle.rows.proofs.Headers.{header-tells}
+use Rattle.rows.proofs.Shapes.{Sound, sound-found, words-inside}
+use Rattle.page.specs.Terms.{RecordHeaderOf}
+use Rattle.page.specs.Answer.{readChecks}
 use Rattle.page.proofs.Headed.{lowest-bad}
 use Rattle.page.proofs.CodeAnswers.{read-1, read-5, read-6, read-7}
 use Rattle.second.proofs.read_second.Proof.SecondChecks.{same-judged, Found, all-found, second-few, second-spare, second-output, second-done, second-record}
 use Rattle.second.proofs.read_second.Statement.{statement}
 use Rattle.second.proofs.read_second.Tie as tie
 
+-- an answer and an output that are right for a shape, and for the page's own, which was found
+abbrev Right : List ℕ → List ℕ → Answer → List ℕ → Shape → Type 0
+Right P out a Q s =
+    (a ≡ answer (readChecks fillCode s P out) (recordLength P))
+    × (Q ≡ after (answer (readChecks fillCode s P out) (recordLength P)) out (atStart (recordOf fillCode s P) out))
+
+own : (P out : List ℕ) (a : Answer) (Q : List ℕ) (s : Shape) → s ≡ shapeOf P → Right P out a Q s → Right P out a Q (shapeOf P)
+own P out a Q s e r = subst (Right P out a Q) e r
+
+shape-of-requires : tie.Need-shape-of-requires
+shape-of-requires c κs = search needs
+
+found : (c : tie.After-shape-of) → Sound (c .shape-of .result)
+found c = sound-found _ _ (c .shape-of .ensures)
+
 returns : tie.Need-returns
-returns c = both-refused _ _ _ _ _ (read-1 fillCode same-judged page256 _ _ 0 .1 (c .if1 .taken, refl))
+returns c =
+    let shaped = c .before .before in
+    own (shaped .before .before .before .args .page .now) _ _ _ _ (shaped .shape-of .ensures)
+    (both-refused _ _ _ _ _ (read-1 fillCode same-judged _ _ _ 0 .1 (c .if1 .taken, refl)))
 
 shared-slice-read-if2 : tie.Need-shared-slice-read-if2
-shared-slice-read-if2 c = search needs
+shared-slice-read-if2 c =
+    let sized = c .before in
+    omega (arith, found (sized .before .before) .inside, sized .if1 .left)
 
 returns-2 : tie.Need-returns-2
-returns-2 c = both-refused _ _ _ _ _ (read-5 fillCode same-judged page256 _ _ 0 .1 (omega arith, c .if2 .taken, refl))
+returns-2 c =
+    let sized = c .before .before in
+    let shaped = sized .before .before in
+    own (shaped .before .before .before .args .page .now) _ _ _ _ (shaped .shape-of .ensures)
+    (both-refused _ _ _ _ _ (read-5 fillCode same-judged _ _ _ 0 .1 (sized .if1 .left, c .if2 .taken, refl)))
 
-shared-slice-read-if3 : tie.Need-shared-slice-read-if3
-shared-slice-read-if3 c = search needs
+mul-bad-header : tie.Need-mul-bad-header
+mul-bad-header c =
+    let sized = c .before .before .before in
+    omega (arith, found (sized .before .before) .few)
+
+bad-header-requires : tie.Need-bad-header-requires
+bad-header-requires c κs =
+    let sized = c .before .before .before in
+    let f = found (sized .before .before) in
+    (omega (arith, f .inside, sized .if1 .left), omega (arith, f .few))
 
 returns-3 : tie.Need-returns-3
-returns-3 c = both-refused _ _ _ _ _ (read-6 fillCode same-judged page256 _ _ 0 .1 (omega arith, c .before .before .if2 .left, inl (c .if3 .taken), refl))
+returns-3 c =
+    let asked = c .before in
+    let state = asked .before .before in
+    let sized = state .before .before in
+    own _ _ _ _ _ (sized .before .before .shape-of .ensures)
+    (both-refused _ _ _ _ _
+    (read-6 fillCode same-judged _ _ _ 0 .1
+    (sized .if1 .left, state .if2 .left, header-tells _ _ _ .if-holds (sym (asked .bad-header .ensures) ∙ c .if3 .taken), refl)))
 
-shared-slice-read-if4 : tie.Need-shared-slice-read-if4
-shared-slice-read-if4 c = search needs
+-- the length and the header are right
+headed : (c : tie.Else3) →
+    let shaped = c .before .before .before .before .before .before .before in
+    RecordHeaderOf fillCode (shaped .shape-of .result) (shaped .before .before .before .args .page .now)
+headed c =
+    let asked = c .before in
+    let state = asked .before .before in
+    let h = header-tells _ _ _ .if-not (sym (asked .bad-header .ensures) ∙ c .if3 .left) in
+    (state .before .before .if1 .left, state .if2 .left, h .0, h .1 .0, h .1 .1)
 
-returns-4 : tie.Need-returns-4
-returns-4 c = both-refused _ _ _ _ _ (read-6 fillCode same-judged page256 _ _ 0 .1 (omega arith, c .before .before .before .before .if2 .left, inr (c .if4 .taken), refl))
+-- what was found, from after the header on
+shaped-at : (c : tie.Else3) → Sound (c .before .before .before .before .before .before .before .shape-of .result)
+shaped-at c = found (c .before .before .before .before .before .before .before)
 
 slice-aggregate-gather : tie.Need-slice-aggregate-gather
 slice-aggregate-gather c = search needs
 
 gather-requires : tie.Need-gather-requires
-gather-requires c κs = search needs
+gather-requires c κs =
+    let f = shaped-at (c .before) in
+    let h = headed (c .before) in
+    (omega (arith, words-inside f, h .0), omega (arith, f .few), omega (arith, f .few))
 
-cast-t14 : tie.Need-cast-t14
-cast-t14 c = search needs
+cast-t15 : tie.Need-cast-t15
+cast-t15 c =
+    let small = c .before in
+    omega (arith, small .if4 .taken, shaped-at (small .before .before .before .before .before .before) .few)
+
+returns-4 : tie.Need-returns-4
+returns-4 c =
+    let small = c .before in
+    let gathered = small .before .before .before .before in
+    let head = gathered .before .before in
+    own _ _ _ _ _ (head .before .before .before .before .before .before .before .shape-of .ensures)
+    (both-refused _ _ _ _ _
+    (read-7 fillCode same-judged _ _ _ _ .1 (headed head, lowest-bad _ wellFormed _ _ (gathered .gather .ensures .0) (small .if4 .taken))))
+
+-- all words are well formed, and their bits are in the buffer
+all : (c : tie.Else4) →
+    let gathered = c .before .before .before .before in
+    let shaped = gathered .before .before .before .before .before .before .before .before .before in
+    Found (shaped .shape-of .result) (shaped .before .before .before .args .page .now) (gathered .gather .last .1 .0) (gathered .gather .result .cells)
+all c =
+    let gathered = c .before .before .before .before in
+    let head = gathered .before .before in
+    let known = head .before .before .before .before .before .before .before .before .before in
+    let g = gathered .gather .ensures in
+    all-found _ _ _ _ _ (λ j. omega (arith, known .shared-slice-known .given j)) (headed head) (g .0) (c .if4 .left) (g .1 .0) (g .1 .1)
+
+sound-there : (c : tie.Else4) → Sound (c .before .before .before .before .before .before .before .before .before .before .before .before .before .shape-of .result)
+sound-there c = shaped-at (c .before .before .before .before .before .before)
+
+length-small : (c : tie.Else4) →
+    let a = c .before .before .before .before .before .before .before .before .before .before .before .before .before .before .before .before .args in
+    recordLength (a .page .now) ≤ 253
+length-small c = omega (arith, all c .header .2, sound-there c .few)
+
+shared-slice-read-n : tie.Need-shared-slice-read-n
+shared-slice-read-n c = omega (arith, all (c .before) .header .0, sound-there (c .before) .inside)
+
+cast-n : tie.Need-cast-n
+cast-n c = omega (arith, length-small (c .before))
+
+mul-if5 : tie.Need-mul-if5
+mul-if5 c = omega (arith, length-small (c .before))
 
 returns-5 : tie.Need-returns-5
 returns-5 c =
-    let small = c .before in
-    let found = small .before .before .before in
-    let e4 = found .before .before in
-    let e3 = e4 .before .before in
-    let e2 = e3 .before .before in
-    let g = found .gather .ensures .0 in
-    both-refused _ _ _ _ _
-    (read-7 fillCode same-judged page256 _ _ _ .1
-    ((omega arith, e2 .if2 .left, e3 .if3 .left, e4 .if4 .left), lowest-bad page256 wellFormed _ _ g (small .if5 .taken)))
-
--- all words are well formed, and their bits are in the buffer
-all : (c : tie.Else5) →
-    let found = c .before .before .before in
-    Found (found .before .before .before .before .before .before .before .before .before .before .before .args .page .now)
-    (found .gather .last .1 .0) (found .gather .result .cells)
-all c =
-    let found = c .before .before .before in
-    let e4 = found .before .before in
-    let e3 = e4 .before .before in
-    let e2 = e3 .before .before in
-    let g = found .gather .ensures in
-    let known = e2 .before .before .before .before in
-    all-found _ _ _ _ (λ j. omega (arith, known .shared-slice-known .given j)) (omega arith, e2 .if2 .left, e3 .if3 .left, e4 .if4 .left) (g .0)
-    (c .if5 .left) (g .1 .0) (g .1 .1)
-
-shared-slice-read-n : tie.Need-shared-slice-read-n
-shared-slice-read-n c = search needs
-
-cast-n : tie.Need-cast-n
-cast-n c = search needs
-
-mul-if6 : tie.Need-mul-if6
-mul-if6 c = search needs
-
-returns-6 : tie.Need-returns-6
-returns-6 c = both-refused _ _ _ _ _ (second-few _ _ _ _ (all (c .before .before .before)) (c .if6 .taken))
+    let four = c .before .before .before in
+    own _ _ _ _ _ (four .before .before .before .before .before .before .before .before .before .before .before .before .before .shape-of .ensures)
+    (both-refused _ _ _ _ _ (second-few _ _ _ _ _ (all four) (c .if5 .taken)))
 
 slice-aggregate-zero-from : tie.Need-slice-aggregate-zero-from
 slice-aggregate-zero-from c = search needs
 
 zero-from-requires : tie.Need-zero-from-requires
-zero-from-requires c κs = search needs
+zero-from-requires c κs = (omega (arith, length-small (c .before .before .before .before)), omega arith)
+
+returns-6 : tie.Need-returns-6
+returns-6 c =
+    let tested = c .before in
+    let enough = tested .before .before in
+    let four = enough .before .before .before in
+    own _ _ _ _ _ (four .before .before .before .before .before .before .before .before .before .before .before .before .before .shape-of .ensures)
+    (both-refused _ _ _ _ _ (second-spare _ _ _ _ _ (all four) (sound-there four) _ (tested .zero-from .ensures) (c .if6 .taken)))
 
 returns-7 : tie.Need-returns-7
 returns-7 c =
-    let enough = c .before .before .before in
-    both-refused _ _ _ _ _ (second-spare _ _ _ _ (all (enough .before .before .before)) _ (c .before .zero-from .ensures) (c .if7 .taken))
-
-returns-8 : tie.Need-returns-8
-returns-8 c =
     let clean = c .before in
-    let enough = clean .before .before .before in
-    both-refused _ _ _ _ _
-    (second-output _ _ _ _ (all (enough .before .before .before)) _ (clean .before .zero-from .ensures) (enough .if6 .left) (clean .if7 .left) (c .if8 .taken))
+    let tested = clean .before in
+    let enough = tested .before .before in
+    let four = enough .before .before .before in
+    own _ _ _ _ _ (four .before .before .before .before .before .before .before .before .before .before .before .before .before .shape-of .ensures)
+    (both-refused _ _ _ _ _
+    (second-output _ _ _ _ _ (all four) (sound-there four) _ (tested .zero-from .ensures) (enough .if5 .left) (clean .if6 .left) (c .if7 .taken)))
 
 slice-aggregate-copy-start : tie.Need-slice-aggregate-copy-start
 slice-aggregate-copy-start c = search needs
 
 copy-start-requires : tie.Need-copy-start-requires
-copy-start-requires c κs = search needs
+copy-start-requires c κs =
+    let roomy = c .before .before in
+    (roomy .if7 .left, omega (arith, length-small (roomy .before .before .before .before .before .before .before)))
 
-cast-t24 : tie.Need-cast-t24
-cast-t24 c = search needs
+cast-t25 : tie.Need-cast-t25
+cast-t25 c = omega (arith, length-small (c .before .before .before .before .before .before .before .before .before .before .before .before))
 
 same-length : tie.Need-same-length
 same-length c = search needs
 
-returns-9 : tie.Need-returns-9
-returns-9 c =
+returns-8 : tie.Need-returns-8
+returns-8 c =
     let copy = c .before .before in
     let roomy = copy .before .before .before in
     let clean = roomy .before in
-    let enough = clean .before .before .before in
-    let five = enough .before .before .before in
-    let f = all five in
-    let a = five .before .before .before .before .before .before .before .before .before .before .before .before .before .before .args in
-    both-done _ _ _ _ _
-    (second-done _ _ _ _ f _ (clean .before .zero-from .ensures) (enough .if6 .left) (clean .if7 .left) (roomy .if8 .left))
-    (copy .copy-start .ensures ∙ ap (λ (l : List ℕ). atStart l (a .out .now)) (second-record _ _ _ f (enough .if6 .left)))
+    let tested = clean .before in
+    let enough = tested .before .before in
+    let four = enough .before .before .before in
+    let shaped = four .before .before .before .before .before .before .before .before .before .before .before .before .before in
+    let a = shaped .before .before .before .args in
+    own _ _ _ _ _ (shaped .shape-of .ensures)
+    (both-done _ _ _ _ _
+    (second-done _ _ _ _ _ (all four) (sound-there four) _ (tested .zero-from .ensures) (enough .if5 .left) (clean .if6 .left) (roomy .if7 .left))
+    (copy .copy-start .ensures
+    ∙ ap (λ (l : List ℕ). atStart l (a .out .now)) (second-record _ _ (a .out .now) _ _ (all four) (sound-there four) (enough .if5 .left))))
 
 pub read-second-spec : {M : Type 1} → statement M
 read-second-spec =
     tie.close
     (tie.spec
+    shape-of-requires
     returns
     shared-slice-read-if2
     returns-2
-    shared-slice-read-if3
+    mul-bad-header
+    bad-header-requires
     returns-3
-    shared-slice-read-if4
-    returns-4
     slice-aggregate-gather
     gather-requires
-    cast-t14
-    returns-5
+    cast-t15
+    returns-4
     shared-slice-read-n
     cast-n
-    mul-if6
-    returns-6
+    mul-if5
+    returns-5
     slice-aggregate-zero-from
     zero-from-requires
+    returns-6
     returns-7
-    returns-8
     slice-aggregate-copy-start
     copy-start-requires
-    cast-t24
+    cast-t25
     same-length
-    returns-9)
+    returns-8)

@@ -1,15 +1,22 @@
--- `second::write_second` meets its contract: the check's refusals are its own; where the record fits, the header is set, then the words.
+-- `second::write_second` meets its contract: the check's refusals are its own; where the record fits, the header is set, then the words. All for
+-- the page's own shape.
 -- Assumes nothing.
 mod Headers
-use mathlib.Core.Path.{_≡_, refl, sym, ap, _∙_}
+use mathlib.Core.List.{List}
+use mathlib.Core.Path.{_≡_, refl, sym, ap, _∙_, subst}
+use Prim.Native.Nat.{ℕ}
 use native.Mathlib.Omega.{arith}
 use borrow.Author.Needs.{needs}
 use lib.ListN.{length, length-set}
+use Rattle.answer.specs.Answer.{Answer, refusal, answer, after}
 use Rattle.answer.proofs.Chains.{both-refused, both-done}
 use Rattle.window.proofs.Words.{length-putWords}
 use Rattle.word.specs.Fill.{isFilled}
-use Rattle.rows.specs.Page.{lowest, page256, FilledOf}
-use Rattle.rows.specs.Code.{fillCode}
+use Rattle.rows.specs.declared.shape.Shape.{Shape}
+use Rattle.rows.specs.Page.{shapeOf, lowest, FilledOf}
+use Rattle.rows.specs.Code.{fillCode, writtenOf}
+use Rattle.rows.proofs.Shapes.{Sound, sound-found, words-inside}
+use Rattle.page.specs.Answer.{writeChecks}
 use Rattle.page.proofs.Headed.{all-words}
 use Rattle.page.proofs.CodeAnswers.{write-refused}
 use Rattle.filled.specs.Answer.{filledChecks, roomFilled, filledCheckCode}
@@ -18,19 +25,41 @@ use Rattle.second.proofs.write_second.Proof.Headers.{header-length, hea
 use Rattle.second.proofs.write_second.Statement.{statement}
 use Rattle.second.proofs.write_second.Tie as tie
 
+-- an answer and a page that are right for a shape, and for the page's own, which was found
+abbrev Right : List ℕ → List ℕ → Answer → List ℕ → Shape → Type 0
+Right P R a Q s =
+    (a ≡ answer (writeChecks fillCode s P R) 0) × (Q ≡ after (answer (writeChecks fillCode s P R) 0) P (writtenOf fillCode s P R))
+
+own : (P R : List ℕ) (a : Answer) (Q : List ℕ) (s : Shape) → s ≡ shapeOf P → Right P R a Q s → Right P R a Q (shapeOf P)
+own P R a Q s e r = subst (Right P R a Q) e r
+
+-- what the check refuses
+refused : (P R : List ℕ) (s : Shape) (n i : ℕ) → s ≡ shapeOf P → _≡_ {A = Answer} (refusal n i) (answer (filledChecks s P) (roomFilled s P))
+    → Right P R (refusal n i) P (shapeOf P)
+unfolding filledChecks
+refused P R s n i e h = own P R (refusal n i) P s e (both-refused _ _ _ _ _ (write-refused fillCode s P R (roomFilled s P) n i (sym h)))
+
+shape-of-requires : tie.Need-shape-of-requires
+shape-of-requires c κs = search needs
+
+found : (c : tie.After-shape-of) → Sound (c .shape-of .result)
+found c = sound-found _ _ (c .shape-of .ensures)
+
 check-filled-requires : tie.Need-check-filled-requires
-check-filled-requires c κs = search needs
+check-filled-requires c κs = let f = found (c .before) in (words-inside f, omega (arith, f .few))
 
 enum-known-c : tie.Need-enum-known-c
 enum-known-c c = search needs
 
 -- a filled page, with its capacity
 passed : (c : tie.After-known-told) →
-    let P = c .before .before .before .before .before .before .before .args .page .now in
-    FilledOf page256 P × (c .before .c .given .0 .0 ≡ roomFilled page256 P)
+    let shaped = c .before .before .before .before .before in
+    let s = shaped .shape-of .result in
+    let P = shaped .before .before .before .args .page .now in
+    FilledOf s P × (c .before .c .given .0 .0 ≡ roomFilled s P)
 passed c =
-    let known = c .before .before .before .before .before .before in
-    check-filled-taken page256 (known .before .args .page .now) _ _ (λ j. omega (arith, known .slice-known .given j)) .0
+    let known = c .before .before .before .before .before .before .before in
+    check-filled-taken _ (known .before .args .page .now) _ _ (λ j. omega (arith, known .slice-known .given j)) .0
     (sym (c .before .before .before .check-filled .ensures) ∙ ap filledCheckCode (c .before .c .given .1))
 
 cast-if1 : tie.Need-cast-if1
@@ -40,25 +69,33 @@ same-length : tie.Need-same-length
 same-length c = search needs
 
 returns : tie.Need-returns
-returns c = let p = passed (c .before) in both-refused _ _ _ _ _ (write-long _ _ (p .0) _ (p .1) (c .if1 .taken))
+returns c =
+    let told = c .before in
+    let p = passed told in
+    own _ _ _ _ _ (told .before .before .before .before .before .shape-of .ensures)
+    (both-refused _ _ _ _ _ (write-long _ _ _ (p .0) _ (p .1) (c .if1 .taken)))
 
 slice-write-page : tie.Need-slice-write-page
-slice-write-page c = omega (arith, passed (c .before) .0 .sized)
+slice-write-page c = omega (arith, passed (c .before) .0 .sized, found (c .before .before .before .before .before .before) .inside)
 
 cast-page : tie.Need-cast-page
 cast-page c =
     let p = passed (c .before) in
-    omega (arith, room-small _ (c .before .before .before .before .before .before .before .before .args .second .now) (p .0) _ (p .1))
+    let shaped = c .before .before .before .before .before .before in
+    omega (arith, room-small _ _ (shaped .before .before .before .args .second .now) (p .0) _ (p .1) (found shaped))
 
 slice-write-page-2 : tie.Need-slice-write-page-2
-slice-write-page-2 c = rw length-set (omega (arith, passed (c .before) .0 .sized))
+slice-write-page-2 c =
+    rw length-set (omega (arith, passed (c .before) .0 .sized, found (c .before .before .before .before .before .before) .inside))
 
 put-record-requires : tie.Need-put-record-requires
 put-record-requires c κs =
-    let p = passed (c .before .before) .0 in (
-      rw header-length (omega (arith, p .sized)),
-      ap (lowest isFilled) (header-words _ _ _ 44) ∙ all-words page256 isFilled _ (p .words-pass),
-      omega arith,
+    let told = c .before .before in
+    let p = passed told .0 in
+    let f = found (told .before .before .before .before .before) in (
+      rw header-length (omega (arith, p .sized, words-inside f)),
+      ap (lowest isFilled) (header-words _ _ _ _) ∙ all-words _ isFilled _ (p .words-pass),
+      omega (arith, f .few),
     )
 
 enum-told : tie.Need-enum-told
@@ -82,40 +119,48 @@ returns-2 c =
     let words = c .before .before in
     let fits = words .before .before in
     let p = passed (fits .before) in
-    both-done _ _ _ _ _ (write-done _ _ (p .0) _ (p .1) (fits .if1 .left)) (words .put-record .ensures ∙ second-set page256 _ _ (omega (arith, p .0 .sized)))
+    let shaped = fits .before .before .before .before .before .before in
+    own _ _ _ _ _ (shaped .shape-of .ensures)
+    (both-done _ _ _ _ _ (write-done _ _ _ (p .0) _ (p .1) (fits .if1 .left))
+    (words .put-record .ensures ∙ second-set (shaped .shape-of .result) _ _ (omega (arith, p .0 .sized, found shaped .inside))))
 
 same-length-3 : tie.Need-same-length-3
 same-length-3 c = search needs
 
 returns-3 : tie.Need-returns-3
-unfolding filledChecks
-returns-3 c = both-refused _ _ _ _ _ (write-refused fillCode page256 _ _ _ _ _ (sym (c .before .before .check-filled .ensures) ∙ ap filledCheckCode (c .enum-told .given .1)))
+returns-3 c =
+    let check = c .before .before in
+    refused _ _ _ _ _ (check .before .before .shape-of .ensures) (sym (ap filledCheckCode (c .enum-told .given .1)) ∙ check .check-filled .ensures)
 
 same-length-4 : tie.Need-same-length-4
 same-length-4 c = search needs
 
 returns-4 : tie.Need-returns-4
-unfolding filledChecks
-returns-4 c = both-refused _ _ _ _ _ (write-refused fillCode page256 _ _ _ _ _ (sym (c .before .before .check-filled .ensures) ∙ ap filledCheckCode (c .enum-told2 .given .1)))
+returns-4 c =
+    let check = c .before .before in
+    refused _ _ _ _ _ (check .before .before .shape-of .ensures) (sym (ap filledCheckCode (c .enum-told2 .given .1)) ∙ check .check-filled .ensures)
 
 same-length-5 : tie.Need-same-length-5
 same-length-5 c = search needs
 
 returns-5 : tie.Need-returns-5
-unfolding filledChecks
-returns-5 c = both-refused _ _ _ _ _ (write-refused fillCode page256 _ _ _ _ _ (sym (c .before .before .check-filled .ensures) ∙ ap filledCheckCode (c .enum-told3 .given .1)))
+returns-5 c =
+    let check = c .before .before in
+    refused _ _ _ _ _ (check .before .before .shape-of .ensures) (sym (ap filledCheckCode (c .enum-told3 .given .1)) ∙ check .check-filled .ensures)
 
 same-length-6 : tie.Need-same-length-6
 same-length-6 c = search needs
 
 returns-6 : tie.Need-returns-6
-unfolding filledChecks
-returns-6 c = both-refused _ _ _ _ _ (write-refused fillCode page256 _ _ _ _ _ (sym (c .before .before .before .check-filled .ensures) ∙ ap filledCheckCode (c .before .c2 .given .1)))
+returns-6 c =
+    let check = c .before .before .before in
+    refused _ _ _ _ _ (check .before .before .shape-of .ensures) (sym (ap filledCheckCode (c .before .c2 .given .1)) ∙ check .check-filled .ensures)
 
 pub write-second-spec : {M : Type 1} → statement M
 write-second-spec =
     tie.close
     (tie.spec
+    shape-of-requires
     check-filled-requires
     enum-known-c
     cast-if1

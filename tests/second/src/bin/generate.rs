@@ -5,9 +5,9 @@ use second::cases::pages::any_page;
 use second::command::command;
 use second::file::{file_bytes, write_file, FILE_PAGES_MOST};
 use second::listing::{listing, PAGES_MOST};
-use second::page::PAGE_BYTES;
 use second::random::Random;
 use second::samples::{self, Alike};
+use second::shape::SMALL;
 use second::sheet::sheet;
 use second::vectors;
 use std::fs;
@@ -40,12 +40,12 @@ fn write_sheet(folder: &str) -> io::Result<()> {
     write_test(folder, &pages, &sheet(&pages))
 }
 
-/// Writes `count` pages of any kind and `extra` further bytes to standard output.
+/// Writes `count` pages of 256 bytes, of any kind, and `extra` further bytes to standard output.
 fn write_pages(seed: u64, count: usize, extra: u8) -> io::Result<()> {
     let mut random = Random::new(seed);
     let mut output = io::BufWriter::new(io::stdout().lock());
     for _ in 0..count {
-        output.write_all(&any_page(&mut random))?;
+        output.write_all(&any_page(&mut random, SMALL))?;
     }
     output.write_all(&random.bytes(usize::from(extra)))?;
     output.flush()
@@ -69,12 +69,12 @@ fn input(most: usize) -> io::Result<Vec<u8>> {
 
 /// Prints the listing or the sheet of standard input.
 fn print(text: fn(&[u8]) -> String) -> io::Result<()> {
-    io::stdout().write_all(text(&input(PAGES_MOST * PAGE_BYTES)?).as_bytes())
+    io::stdout().write_all(text(&input(PAGES_MOST * SMALL.bytes)?).as_bytes())
 }
 
 /// Writes the transfer file of standard input to standard output; one byte too many is enough to refuse the pages.
 fn file(device: u32) -> io::Result<()> {
-    let pages = input(FILE_PAGES_MOST * PAGE_BYTES + 1)?;
+    let pages = input(FILE_PAGES_MOST * SMALL.bytes + 1)?;
     let mut output = vec![0; file_bytes(FILE_PAGES_MOST)];
     let length = write_file(device, &pages, &mut output)
         .map_err(|refusal| io::Error::other(format!("write file refuses {}", refusal.number)))?;

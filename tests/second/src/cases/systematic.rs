@@ -26,7 +26,7 @@ use crate::word::{
 
 const SEED: u64 = 1_012;
 
-/// A word that is sound in no state: two neighbours are set, a data cell is set, and from cell 5 on there is a hole.
+/// A word that is sound in no state: two neighbours are set, a data cell is set, and from cell 4 on there is a hole.
 const NEVER_SOUND: Cells = {
     let mut cells = [false; CELLS];
     cells[0] = true;

@@ -7,12 +7,15 @@ use crate::cases::inspect::{
     any_inspect, bits_in, byte_ends, bytes_taken, first_and_record_ending, first_taking_less, inspect_page, record_for,
     RECORDS,
 };
-use crate::cases::lengths::{resized, FAR_RECORD_LENGTHS, WRONG_PAGE_LENGTHS};
-use crate::cases::pages::{any_filled, any_first, any_second, blank, first_page, with_byte, with_flip, with_word};
+use crate::cases::lengths::{resized, wrong_page_lengths, FAR_RECORD_LENGTHS};
+use crate::cases::pages::{
+    any_filled, any_first, any_second, blank, by_turns, first_page, page_of, with_byte, with_flip, with_word,
+};
 use crate::cases::words::{sum_too_large, with_neighbours, EDGE_VALUE, ODD_VALUE, SPARSE_VALUE};
 use crate::inspect::{put_bits, INSPECT_BYTES_MOST};
-use crate::page::{words_of, FIRST_BYTES, INSPECTED, PAGE_BYTES, WORDS};
+use crate::page::{words_of, INSPECTED};
 use crate::random::Random;
+use crate::shape::SMALL;
 use crate::word::{cells_with_sum, weight, Cells, CELLS, LARGEST_VALUE};
 
 const SEED: u64 = 247;
@@ -39,7 +42,7 @@ pub fn calls() -> Vec<Call> {
     script.alike_inspects();
     script.inspect_page_lengths();
     script.inspect_outputs();
-    Entry::OF_INSPECT.into_iter().for_each(|entry| script.orders_of(entry));
+    Entry::OF_INSPECT.into_iter().for_each(|entry| script.orders_of(entry, SMALL));
     script.calls
 }
 
@@ -67,13 +70,13 @@ impl Script {
     /// record takes 45, 30, 23, 44 and 44 bits.
     fn figures(&mut self) {
         for (value, zeros) in [(0, 247), (SPARSE_VALUE, 165), (ODD_VALUE, 126), (EDGE_VALUE, 242), (3, 242)] {
-            let first = first_page(&[value; WORDS]);
+            let first = page_of(SMALL, value);
             for (byte, most) in [(0x00, zeros), (0xFF, 126)] {
                 [most, most + 1].into_iter().for_each(|length| self.inspecting(&first, vec![byte; length]));
             }
         }
         for value in [0, SPARSE_VALUE] {
-            let first = first_page(&[value; WORDS]);
+            let first = page_of(SMALL, value);
             [vec![], vec![0], vec![0xFF]].into_iter().for_each(|record| self.inspecting(&first, record));
         }
     }
@@ -81,7 +84,7 @@ impl Script {
     /// A 1 and a 0 over each pair that starts a word: 00, 01 and 10.
     fn each_pair(&mut self) {
         for value in [0, weight(1) as u32, weight(0) as u32] {
-            let first = first_page(&[value; WORDS]);
+            let first = page_of(SMALL, value);
             [vec![0x80], vec![0x55; 24]].into_iter().for_each(|record| self.inspecting(&first, record));
         }
     }
@@ -89,7 +92,7 @@ impl Script {
     /// Records of each kind over any pages: the longest that fits, one byte more, and a shorter one.
     fn each_kind(&mut self) {
         for kind in RECORDS {
-            let first = any_first(&mut self.random);
+            let first = any_first(&mut self.random, SMALL);
             let record = kind(&mut self.random, INSPECT_BYTES_MOST + 1);
             let most = bytes_taken(&first, &record);
             let any = self.random.between(0, most);
@@ -125,7 +128,7 @@ impl Script {
     fn far_inspects(&mut self) {
         let lengths = FAR_RECORD_LENGTHS.into_iter().filter(|&length| length <= LENGTH_MOST);
         for (turn, length) in lengths.enumerate() {
-            let first = any_first(&mut self.random);
+            let first = any_first(&mut self.random, SMALL);
             let record = RECORDS[turn % RECORDS.len()](&mut self.random, length);
             self.page(Entry::WriteInspect, &first, record);
         }
@@ -135,13 +138,13 @@ impl Script {
     /// with one too long.
     fn illegal_inspects(&mut self) {
         for (turn, index) in INDICES.into_iter().enumerate() {
-            let first = any_first(&mut self.random);
+            let first = any_first(&mut self.random, SMALL);
             let pair = with_neighbours(words_of(&first)[index], [0, 21, 44][turn % 3]);
             let sum = sum_too_large(&mut self.random);
             let page = with_word(first.clone(), index, if turn % 2 == 0 { pair } else { sum });
             self.page_with(Entry::WriteInspect, &page, [0, 20, 248][turn % 3]);
             if turn % 4 == 1 {
-                self.page_with(Entry::WriteInspect, &with_word(page, WORDS - 1, pair), 20);
+                self.page_with(Entry::WriteInspect, &with_word(page, SMALL.words - 1, pair), 20);
             }
         }
     }
@@ -154,12 +157,12 @@ impl Script {
             let (first, record) = first_and_record_ending(&mut self.random, index, value, &[cell, cell + 1, cell + 2]);
             let page = inspect_page(&first, &record);
             let end = byte_ends(&page)[usize::from(page[1]) - 1].1;
-            for (of, cell) in [(index, end), (index, CELLS - 2), (index + 1, 0), (WORDS - 1, CELLS - 2)] {
+            for (of, cell) in [(index, end), (index, CELLS - 2), (index + 1, 0), (SMALL.words - 1, CELLS - 2)] {
                 let cells = with_neighbours(words_of(&page)[of], cell);
                 self.page_with(Entry::ReadInspect, &with_word(page.clone(), of, cells), 9);
             }
             let two = with_word(page, index + 1, with_neighbours([false; CELLS], 9));
-            let two = with_word(two, WORDS - 1, sum_too_large(&mut self.random));
+            let two = with_word(two, SMALL.words - 1, sum_too_large(&mut self.random));
             self.page_with(Entry::ReadInspect, &two, 9);
         }
     }
@@ -167,7 +170,7 @@ impl Script {
     /// Sums too large in words that the record walks whole, ends in, and does not reach: with no pair, and with pairs in
     /// the walk.
     fn sums(&mut self) {
-        let zeros = inspect_page(&first_page(&[0; WORDS]), &[0; 20]);
+        let zeros = inspect_page(&page_of(SMALL, 0), &[0; 20]);
         let any = sum_too_large(&mut self.random);
         for cells in [cells_with_sum(LARGEST_VALUE + 1), any, large_sum_with_pairs()] {
             for index in [0, 3, 4, 43] {
@@ -191,7 +194,7 @@ impl Script {
             self.page_with(Entry::ReadInspect, &page, 247);
         }
         for (turn, index) in INDICES.into_iter().take(6).enumerate() {
-            let first = any_first(&mut self.random);
+            let first = any_first(&mut self.random, SMALL);
             let page = inspect_page(&first, &record_for(&mut self.random, &first, 0));
             let most = bits_in(&page) / 8;
             for length in [most, most + 1, INSPECT_BYTES_MOST] {
@@ -205,10 +208,10 @@ impl Script {
     /// Pages with one bit flipped.
     fn inspect_flips(&mut self) {
         for _ in 0..10 {
-            let bit = self.random.between(24, 8 * PAGE_BYTES - 1);
-            let first = with_flip(any_first(&mut self.random), bit);
+            let bit = self.random.between(24, 8 * SMALL.bytes - 1);
+            let first = with_flip(any_first(&mut self.random, SMALL), bit);
             self.page_with(Entry::WriteInspect, &first, 30);
-            let page = with_flip(any_inspect(&mut self.random), bit);
+            let page = with_flip(any_inspect(&mut self.random, SMALL), bit);
             self.page_with(Entry::ReadInspect, &page, 100);
         }
     }
@@ -218,27 +221,27 @@ impl Script {
         let states = [(0, 0x00), (0, 0x02), (0, 0x08), (0, 0x0B), (0, 0x89), (0, 0xFF)];
         let header_bytes = [(1, 1), (1, 126), (1, 247), (1, 248), (1, 255), (2, 1), (2, 128)];
         for (place, byte) in states.into_iter().chain(header_bytes) {
-            let first = with_byte(any_first(&mut self.random), place, byte);
+            let first = with_byte(any_first(&mut self.random, SMALL), place, byte);
             self.page_with(Entry::WriteInspect, &first, 9);
-            let page = with_byte(any_inspect(&mut self.random), place, byte);
+            let page = with_byte(any_inspect(&mut self.random, SMALL), place, byte);
             self.page_with(Entry::ReadInspect, &page, 9);
         }
     }
 
     /// Valid pages of another state for the entries of the Inspect code, and pages of that code for the other entries.
     fn inspect_states(&mut self) {
-        let pages = [blank, any_first, any_filled, any_second, any_inspect].map(|page| page(&mut self.random));
+        let pages = [blank, any_first, any_filled, any_second, any_inspect].map(|page| page(&mut self.random, SMALL));
         for (entry, page) in Entry::OF_PAGES.into_iter().flat_map(|entry| pages.iter().map(move |page| (entry, page))) {
             let inspect = Entry::OF_INSPECT.contains(&entry) || page[0] == INSPECTED;
             if inspect && !entry.states().contains(&page[0]) {
-                self.page_with(entry, page, if entry == Entry::WriteFirst { FIRST_BYTES } else { 1 });
+                self.page_with(entry, page, if entry == Entry::WriteFirst { SMALL.first_bytes } else { 1 });
             }
         }
     }
 
     /// Cells that are sound in states 01, 03, 07 and 09 alike, so that the state alone decides.
     fn alike_inspects(&mut self) {
-        let first = first_page(&std::array::from_fn(|index| [SPARSE_VALUE, ODD_VALUE][index % 2]));
+        let first = first_page(&by_turns(SMALL, &[SPARSE_VALUE, ODD_VALUE]));
         for entry in Entry::OF_INSPECT {
             for state in [0x01, 0x03, 0x07, 0x09] {
                 self.page_with(entry, &with_byte(first.clone(), 0, state), 20);
@@ -252,8 +255,8 @@ impl Script {
 
     /// Wrong lengths of the page.
     fn inspect_page_lengths(&mut self) {
-        for length in WRONG_PAGE_LENGTHS {
-            let [first, page] = [any_first, any_inspect].map(|page| page(&mut self.random));
+        for length in wrong_page_lengths(Entry::WriteInspect) {
+            let [first, page] = [any_first, any_inspect].map(|page| page(&mut self.random, SMALL));
             let first = resized(&mut self.random, first, length);
             self.page_with(Entry::WriteInspect, &first, length % 3);
             let page = resized(&mut self.random, page, length);
@@ -267,7 +270,7 @@ impl Script {
         let long: [(Contents, usize, [usize; 3]); 2] =
             [(any_bytes, 126, [125, 126, 127]), (zeros, 247, [246, 247, 250])];
         for (kind, length, outputs) in short.into_iter().chain(long) {
-            let page = inspect_page(&first_page(&[2; WORDS]), &kind(&mut self.random, length));
+            let page = inspect_page(&page_of(SMALL, 2), &kind(&mut self.random, length));
             outputs.into_iter().for_each(|length| self.page_with(Entry::ReadInspect, &page, length));
         }
     }
@@ -323,7 +326,7 @@ mod tests {
             (EDGE_VALUE, 0x00, 242, 1_936),
             (3, 0x00, 242, 1_936),
         ] {
-            let first = first_page(&[value; WORDS]);
+            let first = page_of(SMALL, value);
             let refused = Err(Refusal::record_length(bits));
             for (length, answer) in [(most, Ok(0)), (most + 1, refused)] {
                 assert!(met.contains(&(&first, &vec![byte; length], answer)), "{value} {byte} {length}");
@@ -450,7 +453,7 @@ mod tests {
     #[test]
     fn outputs_one_short_exact_and_longer() {
         let met: HashSet<_> = of_entry(Entry::ReadInspect)
-            .filter(|(call, ..)| call.page.len() == PAGE_BYTES)
+            .filter(|(call, ..)| call.page.len() == SMALL.bytes)
             .map(|(call, _, answer)| (call.page[1], call.other.len(), number(*answer)))
             .collect();
         for (length, output) in [(1, 1), (126, 126), (247, 247)] {
@@ -466,7 +469,7 @@ mod tests {
     #[test]
     fn states_and_header_bytes() {
         for (entry, state, most) in [(Entry::WriteInspect, FIRST_ROUND, 0), (Entry::ReadInspect, INSPECTED, 247)] {
-            let whole = of_entry(entry).filter(|(call, ..)| call.page.len() == PAGE_BYTES);
+            let whole = of_entry(entry).filter(|(call, ..)| call.page.len() == SMALL.bytes);
             let met: HashSet<_> = whole.map(|(call, _, answer)| (call.page[..3].to_vec(), number(*answer))).collect();
             for other in [0x00, 0x01, 0x03, 0x07, 0x08, 0x09, 0x0B].into_iter().filter(|other| *other != state) {
                 assert!(met.iter().any(|(header, number)| header[0] == other && *number == 5), "{other}");

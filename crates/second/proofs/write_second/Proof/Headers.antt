@@ -7,17 +7,18 @@ use native.Mathlib.Omega.{arith}
 use lib.ListN.{length, drop, set, length-set, length-drop}
 use lib.Seq.{set-split, drop-drop}
 use Rattle.cells.specs.Bytes.{bits}
-use Rattle.answer.specs.Answer.{result, refusal}
+use Rattle.answer.specs.Answer.{result, refusal, answer}
 use Rattle.window.specs.Words.{pageWords, putWords}
 use Rattle.window.proofs.Words.{pageWords-set}
 use Rattle.rows.specs.declared.shape.Shape.{Shape}
-use Rattle.rows.specs.Page.{page256, withHeader, putAll, FilledOf}
+use Rattle.rows.specs.Page.{withHeader, putAll, FilledOf}
 use Rattle.rows.specs.Code.{fillCode, writtenOf}
 use Rattle.rows.proofs.EachWord.{row-page}
 use Rattle.rows.proofs.SecondWords.{read-most}
+use Rattle.rows.proofs.Shapes.{Sound, words-inside}
+use Rattle.page.specs.Answer.{writeChecks}
 use Rattle.page.proofs.CodeAnswers.{write-taken, write-8}
 use Rattle.filled.specs.Answer.{roomFilled}
-use Rattle.second.specs.Answer.{writeSecondAnswer}
 
 header-set : (P : List ℕ) (a b : ℕ) → 2 ≤ length P → set (set P 0 a) 1 b ≡ withHeader a b P
 header-set P a b h =
@@ -38,15 +39,16 @@ second-set s P bs h =
     ap₂ (λ (p : List ℕ) (ws : List (List Bool)). putWords p (putAll ws (bits bs)))
     (header-set P 7 (length bs) h) (header-words P 7 (length bs) (s .words))
 
--- the room for a record: at most 1012 bits, so a record that fits has a length below 256
-module _ (P R : List ℕ) (f : FilledOf page256 P) (room : ℕ) (e : room ≡ roomFilled page256 P) where
-  pub room-small : room ≤ 1012
-  room-small =
-      let r = row-page P 44 (omega (arith, f .sized)) in
-      omega (arith, r .0, read-most (pageWords P 44) (r .1))
+-- the room for a record: at most 23 bits a word, so a record that fits has a length below 256
+module _ (s : Shape) (P R : List ℕ) (f : FilledOf s P) (room : ℕ) (e : room ≡ roomFilled s P) where
+  pub room-small : Sound s → room ≤ 2024
+  room-small sound =
+      let n = s .words in
+      let r = row-page P n (omega (arith, f .sized, words-inside sound)) in
+      omega (arith, e, r .0, read-most (pageWords P n) (r .1), sound .few)
 
-  pub write-long : room / 8 < length R → writeSecondAnswer P R ≡ refusal 8 room
-  write-long h = write-8 fillCode page256 P R room (f .of-bytes) .1 (f, e, omega arith)
+  pub write-long : room / 8 < length R → answer {A = ℕ} (writeChecks fillCode s P R) 0 ≡ refusal 8 room
+  write-long h = write-8 fillCode s P R room (f .of-bytes) .1 (f, e, omega arith)
 
-  pub write-done : length R ≤ room / 8 → writeSecondAnswer P R ≡ result 0
-  write-done h = write-taken fillCode page256 P R 0 (f .of-bytes) .1 (f, omega arith, refl)
+  pub write-done : length R ≤ room / 8 → answer {A = ℕ} (writeChecks fillCode s P R) 0 ≡ result 0
+  write-done h = write-taken fillCode s P R 0 (f .of-bytes) .1 (f, omega arith, refl)
