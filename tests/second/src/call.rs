@@ -6,7 +6,7 @@ use crate::shape::{Shape, SMALL};
 use crate::{file, inspect, page, word};
 
 /// The entries, in the order of their numbers.
-#[derive(Clone, Copy, Debug, PartialEq, Eq)]
+#[derive(Clone, Copy, Debug, PartialEq, Eq, Hash)]
 pub enum Entry {
     EncodeWord,
     DecodeWord,

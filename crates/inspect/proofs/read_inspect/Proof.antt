@@ -1,16 +1,21 @@
--- `inspect::read_inspect` meets its contract: each test answers as the definition does, in its order, and the record is copied from what was
--- read. Assumes nothing.
+-- `inspect::read_inspect` meets its contract: each test answers as the definition does for a page of 256 bytes, in its order, and the record is
+-- copied from what was read. Assumes nothing.
 mod Checks
 use mathlib.Core.List.{List}
-use mathlib.Core.Logic.{inl, inr}
-use mathlib.Core.Path.{refl, ap, _∙_}
-use Prim.Native.Nat.{ℕ}
+use mathlib.Core.Path.{_≡_, refl, sym, ap, _∙_, subst}
+use Prim.Native.Nat.{ℕ, _≤_}
 use native.Mathlib.Omega.{arith}
 use Rattle.cells.specs.Bytes.{atStart}
+use Rattle.answer.specs.Answer.{Answer, answer, after}
 use Rattle.answer.proofs.Chains.{both-refused, both-done}
 use Rattle.word.specs.Word.{legal}
-use Rattle.rows.specs.Page.{page256}
-use Rattle.rows.specs.Code.{judgedOf}
+use Rattle.rows.specs.declared.shape.Shape.{Shape}
+use Rattle.rows.specs.Page.{page256, recordLength}
+use Rattle.rows.specs.Code.{judgedOf, recordOf}
+use Rattle.rows.proofs.Headers.{header-tells}
+use Rattle.rows.proofs.Shapes.{Sound, sound256, words-inside}
+use Rattle.page.specs.Terms.{RecordHeaderOf}
+use Rattle.page.specs.Answer.{readChecks}
 use Rattle.page.proofs.Headed.{row-bad}
 use Rattle.page.proofs.CodeAnswers.{length-judged, read-1, read-5, read-6, read-7}
 use Rattle.inspect.specs.Rows.{inspectCode}
@@ -20,133 +25,202 @@ use borrow.Author.Needs.{needs}
 use Rattle.inspect.proofs.read_inspect.Statement.{statement}
 use Rattle.inspect.proofs.read_inspect.Tie as tie
 
+-- an answer and an output that are right for a shape, and for the page of 256 bytes, which it is
+abbrev Right : List ℕ → List ℕ → Answer → List ℕ → Shape → Type 0
+Right P out a Q s =
+    (a ≡ answer (readChecks inspectCode s P out) (recordLength P))
+    × (Q ≡ after (answer (readChecks inspectCode s P out) (recordLength P)) out (atStart (recordOf inspectCode s P) out))
+
+own : (P out : List ℕ) (a : Answer) (Q : List ℕ) (s : Shape) → s ≡ page256 → Right P out a Q s → Right P out a Q page256
+own P out a Q s e r = subst (Right P out a Q) e r
+
+small-page-requires : tie.Need-small-page-requires
+small-page-requires c κs = search needs
+
+found : (c : tie.After-small-page) → Sound (c .small-page .result) × (c .small-page .result .words ≤ 44)
+found c = rw (c .small-page .ensures) (sound256, omega arith)
+
 returns : tie.Need-returns
-returns c = both-refused _ _ _ _ _ (read-1 inspectCode length-unwalkedAll page256 _ _ 0 .1 (c .if1 .taken, refl))
+returns c =
+    own _ _ _ _ _ (c .before .before .small-page .ensures)
+    (both-refused _ _ _ _ _ (read-1 inspectCode length-unwalkedAll _ _ _ 0 .1 (c .if1 .taken, refl)))
 
 shared-slice-read-if2 : tie.Need-shared-slice-read-if2
-shared-slice-read-if2 c = search needs
+shared-slice-read-if2 c =
+    let sized = c .before in
+    omega (arith, found (sized .before .before) .0 .inside, sized .if1 .left)
 
 returns-2 : tie.Need-returns-2
-returns-2 c = both-refused _ _ _ _ _ (read-5 inspectCode length-unwalkedAll page256 _ _ 0 .1 (omega arith, c .if2 .taken, refl))
+returns-2 c =
+    let sized = c .before .before in
+    own _ _ _ _ _ (sized .before .before .small-page .ensures)
+    (both-refused _ _ _ _ _ (read-5 inspectCode length-unwalkedAll _ _ _ 0 .1 (sized .if1 .left, c .if2 .taken, refl)))
 
-shared-slice-read-if3 : tie.Need-shared-slice-read-if3
-shared-slice-read-if3 c = search needs
+mul-bad-header : tie.Need-mul-bad-header
+mul-bad-header c =
+    let sized = c .before .before .before in
+    omega (arith, found (sized .before .before) .1)
+
+bad-header-requires : tie.Need-bad-header-requires
+bad-header-requires c κs =
+    let sized = c .before .before .before in
+    let f = found (sized .before .before) in
+    (omega (arith, f .0 .inside, sized .if1 .left), omega (arith, f .1))
 
 returns-3 : tie.Need-returns-3
-returns-3 c = both-refused _ _ _ _ _ (read-6 inspectCode length-unwalkedAll page256 _ _ 0 .1 (omega arith, c .before .before .if2 .left, inl (c .if3 .taken), refl))
+returns-3 c =
+    let asked = c .before in
+    let state = asked .before .before in
+    let sized = state .before .before in
+    own _ _ _ _ _ (sized .before .before .small-page .ensures)
+    (both-refused _ _ _ _ _
+    (read-6 inspectCode length-unwalkedAll _ _ _ 0 .1
+    (sized .if1 .left, state .if2 .left, header-tells _ _ _ .if-holds (sym (asked .bad-header .ensures) ∙ c .if3 .taken), refl)))
 
-shared-slice-read-if4 : tie.Need-shared-slice-read-if4
-shared-slice-read-if4 c = search needs
+-- the length and the header are right
+headed : (c : tie.Else3) →
+    let shaped = c .before .before .before .before .before .before .before in
+    RecordHeaderOf inspectCode (shaped .small-page .result) (shaped .before .before .before .args .page .now)
+headed c =
+    let asked = c .before in
+    let state = asked .before .before in
+    let h = header-tells _ _ _ .if-not (sym (asked .bad-header .ensures) ∙ c .if3 .left) in
+    (state .before .before .if1 .left, state .if2 .left, h .0, h .1 .0, h .1 .1)
 
-returns-4 : tie.Need-returns-4
-returns-4 c = both-refused _ _ _ _ _ (read-6 inspectCode length-unwalkedAll page256 _ _ 0 .1 (omega arith, c .before .before .before .before .if2 .left, inr (c .if4 .taken), refl))
+found-there : (c : tie.Else3) →
+    let shaped = c .before .before .before .before .before .before .before in
+    Sound (shaped .small-page .result) × (shaped .small-page .result .words ≤ 44)
+found-there c = found (c .before .before .before .before .before .before .before)
+
+length-small : (c : tie.Else3) →
+    let a = c .before .before .before .before .before .before .before .before .before .before .args in
+    recordLength (a .page .now) ≤ 247
+length-small c = omega (arith, headed c .2, found-there c .1)
 
 shared-slice-read-n : tie.Need-shared-slice-read-n
-shared-slice-read-n c = search needs
+shared-slice-read-n c = omega (arith, headed (c .before) .0, found-there (c .before) .0 .inside)
 
 cast-n : tie.Need-cast-n
-cast-n c = search needs
+cast-n c = omega (arith, length-small (c .before))
 
 slice-aggregate-read-words : tie.Need-slice-aggregate-read-words
 slice-aggregate-read-words c = search needs
 
 mul-read-words : tie.Need-mul-read-words
-mul-read-words c = search needs
+mul-read-words c = omega (arith, length-small (c .before .before))
 
 read-words-requires : tie.Need-read-words-requires
-read-words-requires c κs = search needs
+read-words-requires c κs =
+    let head = c .before .before in
+    let f = found-there head in
+    (omega (arith, words-inside (f .0), headed head .0), omega (arith, f .1), refl, omega (arith, f .1))
 
-cast-t15 : tie.Need-cast-t15
-cast-t15 c = search needs
+cast-t16 : tie.Need-cast-t16
+cast-t16 c =
+    let small = c .before in
+    omega (arith, small .if4 .taken, found-there (small .before .before .before .before .before .before .before) .1)
+
+returns-4 : tie.Need-returns-4
+returns-4 c =
+    let small = c .before in
+    let read = small .before .before .before .before in
+    let head = read .before .before .before in
+    let shaped = head .before .before .before .before .before .before .before in
+    let s = shaped .small-page .result in
+    let a = shaped .before .before .before .args in
+    let P = a .page .now in
+    let g = read .read-words .ensures .0 in
+    own _ _ _ _ _ (shaped .small-page .ensures)
+    (both-refused _ _ _ _ _
+    (read-7 inspectCode length-unwalkedAll _ _ _ _ .1 (
+      headed head,
+      row-bad legal (judgedOf inspectCode s P) _ .0
+          (omega (arith, g, small .if4 .taken, length-judged inspectCode length-unwalkedAll s P (a .out .now)), g),
+    )))
+
+-- all words are legal so, and their bits are in the buffer
+all : (c : tie.Else4) →
+    let read = c .before .before .before .before in
+    let shaped = read .before .before .before .before .before .before .before .before .before .before in
+    Found (shaped .small-page .result) (shaped .before .before .before .args .page .now) (read .read-words .last .1 .0) (read .read-words .result .bits)
+all c =
+    let read = c .before .before .before .before in
+    let head = read .before .before .before in
+    let known = head .before .before .before .before .before .before .before .before .before in
+    let g = read .read-words .ensures in
+    all-found _ _ _ _ _ (λ j. omega (arith, known .shared-slice-known .given j)) (headed head) (g .0) (c .if4 .left) (g .1 .0) (g .1 .1)
+
+-- where the header was found right, and the shape
+abbrev head-of : (c : tie.Else4) → tie.Else3
+head-of c = c .before .before .before .before .before .before .before
+
+mul-if5 : tie.Need-mul-if5
+mul-if5 c = omega (arith, length-small (head-of c))
 
 returns-5 : tie.Need-returns-5
 returns-5 c =
-    let small = c .before in
-    let found = small .before .before .before in
-    let e4 = found .before .before .before in
-    let e3 = e4 .before .before in
-    let e2 = e3 .before .before in
-    let a = e2 .before .before .before .before .before .args in
-    let P = a .page .now in
-    let g = found .read-words .ensures .0 in
-    both-refused _ _ _ _ _
-    (read-7 inspectCode length-unwalkedAll page256 _ _ _ .1 (
-      (omega arith, e2 .if2 .left, e3 .if3 .left, e4 .if4 .left),
-      row-bad legal (judgedOf inspectCode page256 P) _ .0
-          (omega (arith, g, small .if5 .taken, length-judged inspectCode length-unwalkedAll page256 P (a .out .now)), g),
-    ))
-
--- all words are legal so, and their bits are in the buffer
-all : (c : tie.Else5) →
-    let found = c .before .before .before in
-    Found (found .before .before .before .before .before .before .before .before .before .before .before .before .args .page .now)
-    (found .read-words .last .1 .0) (found .read-words .result .bits)
-all c =
-    let found = c .before .before .before in
-    let e4 = found .before .before .before in
-    let e3 = e4 .before .before in
-    let e2 = e3 .before .before in
-    let g = found .read-words .ensures in
-    let known = e2 .before .before .before .before in
-    all-found _ _ _ _ (λ j. omega (arith, known .shared-slice-known .given j)) (omega arith, e2 .if2 .left, e3 .if3 .left, e4 .if4 .left) (g .0)
-    (c .if5 .left) (g .1 .0) (g .1 .1)
-
-mul-if6 : tie.Need-mul-if6
-mul-if6 c = search needs
+    let four = c .before .before in
+    own _ _ _ _ _ (head-of four .before .before .before .before .before .before .before .small-page .ensures)
+    (both-refused _ _ _ _ _ (inspect-ends _ _ _ _ _ (all four) (c .if5 .taken)))
 
 returns-6 : tie.Need-returns-6
-returns-6 c = both-refused _ _ _ _ _ (inspect-ends _ _ _ _ (all (c .before .before)) (c .if6 .taken))
-
-returns-7 : tie.Need-returns-7
-returns-7 c = both-refused _ _ _ _ _ (inspect-output _ _ _ _ (all (c .before .before .before)) (c .before .if6 .left) (c .if7 .taken))
+returns-6 c =
+    let enough = c .before in
+    let four = enough .before .before in
+    own _ _ _ _ _ (head-of four .before .before .before .before .before .before .before .small-page .ensures)
+    (both-refused _ _ _ _ _ (inspect-output _ _ _ _ _ (all four) (enough .if5 .left) (c .if6 .taken)))
 
 slice-aggregate-copy-start : tie.Need-slice-aggregate-copy-start
 slice-aggregate-copy-start c = search needs
 
 copy-start-requires : tie.Need-copy-start-requires
-copy-start-requires c κs = search needs
+copy-start-requires c κs =
+    let roomy = c .before .before in
+    (roomy .if6 .left, omega (arith, length-small (head-of (roomy .before .before .before))))
 
-cast-t21 : tie.Need-cast-t21
-cast-t21 c = search needs
+cast-t22 : tie.Need-cast-t22
+cast-t22 c = omega (arith, length-small (head-of (c .before .before .before .before .before .before .before .before)))
 
 same-length : tie.Need-same-length
 same-length c = search needs
 
-returns-8 : tie.Need-returns-8
-returns-8 c =
+returns-7 : tie.Need-returns-7
+returns-7 c =
     let copy = c .before .before in
     let roomy = copy .before .before .before in
     let enough = roomy .before in
-    let five = enough .before .before in
-    let f = all five in
-    let a = five .before .before .before .before .before .before .before .before .before .before .before .before .before .before .before .args in
-    both-done _ _ _ _ _
-    (inspect-done _ _ _ _ f (enough .if6 .left) (roomy .if7 .left))
-    (copy .copy-start .ensures ∙ ap (λ (l : List ℕ). atStart l (a .out .now)) (inspect-bytes _ _ _ f (enough .if6 .left)))
+    let four = enough .before .before in
+    let shaped = head-of four .before .before .before .before .before .before .before in
+    let a = shaped .before .before .before .args in
+    own _ _ _ _ _ (shaped .small-page .ensures)
+    (both-done _ _ _ _ _
+    (inspect-done _ _ _ _ _ (all four) (enough .if5 .left) (roomy .if6 .left))
+    (copy .copy-start .ensures
+    ∙ ap (λ (l : List ℕ). atStart l (a .out .now)) (inspect-bytes _ _ (a .out .now) _ _ (all four) (enough .if5 .left) (found shaped .1))))
 
 pub read-inspect-spec : {M : Type 1} → statement M
 read-inspect-spec =
     tie.close
     (tie.spec
+    small-page-requires
     returns
     shared-slice-read-if2
     returns-2
-    shared-slice-read-if3
+    mul-bad-header
+    bad-header-requires
     returns-3
-    shared-slice-read-if4
-    returns-4
     shared-slice-read-n
     cast-n
     slice-aggregate-read-words
     mul-read-words
     read-words-requires
-    cast-t15
+    cast-t16
+    returns-4
+    mul-if5
     returns-5
-    mul-if6
     returns-6
-    returns-7
     slice-aggregate-copy-start
     copy-start-requires
-    cast-t21
+    cast-t22
     same-length
-    returns-8)
+    returns-7)
