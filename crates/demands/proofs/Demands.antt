@@ -89,7 +89,7 @@ shape-256 P l =
     let e : shapeOf P ≡ page256 = for-other (length P) (omega arith) in (
       ap (λ (s : Shape). s .words) e,
       ap (λ (s : Shape). s .first) e,
-      ap (λ (s : Shape). tail (s .words) P) e ∙ drop-of-length-le P (omega arith),
+      ap (λ (s : Shape). tail (s .words) P) e ∙ drop-of-length-le P {i = 256} (omega arith),
     )
 
 -- the last three bytes
@@ -100,7 +100,7 @@ last-three P l =
     drop-cons P 509 0 (omega arith)
     ∙ ap (λ (x : List ℕ). getD P 509 0 ∷ x)
     (drop-cons P 510 0 (omega arith)
-    ∙ ap (λ (x : List ℕ). getD P 510 0 ∷ x) (drop-cons P 511 0 (omega arith) ∙ ap (λ (x : List ℕ). getD P 511 0 ∷ x) (drop-of-length-le P (omega arith)))) in (
+    ∙ ap (λ (x : List ℕ). getD P 510 0 ∷ x) (drop-cons P 511 0 (omega arith) ∙ ap (λ (x : List ℕ). getD P 511 0 ∷ x) (drop-of-length-le P {i = 512} (omega arith)))) in (
       λ t.
           let a = and-yes (eqb (getD P 509 0) 0) _ (subst (λ (x : List ℕ). T (zeros x)) e t) in
           let b = and-yes (eqb (getD P 510 0) 0) _ (a .1) in

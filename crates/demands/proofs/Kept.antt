@@ -19,7 +19,8 @@ use Rattle.word.proofs.Filling.{length-fill}
 use Rattle.rows.specs.declared.shape.Shape.{Shape}
 use Rattle.rows.specs.Page.{fillAll}
 use Rattle.rows.proofs.EachWord.{Row}
-use Rattle.demands.proofs.Laid.{Sound, laid, laid-bits}
+use Rattle.rows.proofs.Shapes.{Sound}
+use Rattle.demands.proofs.Laid.{laid, laid-bits}
 
 -- ---- words
 

@@ -411,6 +411,7 @@ fn run(seed: u64, cases: u64, plant: Option<Kind>) -> ExitCode {
     let Tally { checks, wrong } = run.tally;
     print!("{}", run.coverage.table());
     println!("differential: {}", run.coverage.places());
+    println!("differential: {}", run.coverage.large_places());
     println!("differential: {systematic} systematic cases before them");
     println!("differential: seed {seed}, {cases} cases, {checks} checks, {wrong} wrong");
     ExitCode::from(u8::from(wrong > 0))

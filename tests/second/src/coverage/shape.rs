@@ -452,9 +452,9 @@ mod tests {
             let call = Call::of_page(Entry::WriteSecond, filled_page(&page_of(shape, value)), vec![0; 300]);
             assert_eq!(met_by_call(&call), [name]);
         }
-        // A middle capacity of 512 bytes that is the most of 256.
-        let values = [vec![0; 44], vec![SPARSE_VALUE; 44]].concat();
-        assert_eq!(met_by(Entry::WriteSecond, filled_page(&first_page(&values))), [""; 0]);
+        // A capacity between the ends counts for nothing.
+        let middle = filled_page(&first_page(&[vec![0; 44], vec![SPARSE_VALUE; 44]].concat()));
+        assert_eq!(met_by_call(&Call::of_page(Entry::WriteSecond, middle, vec![0; 300])), [""; 0]);
     }
 
     /// The bits that 8 of write inspect names: zeros over the odd cells, and over no cell.

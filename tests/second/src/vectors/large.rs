@@ -1,0 +1,1 @@
+pub fn calls() -> Vec<crate::call::Call> { Vec::new() }
