@@ -23,7 +23,7 @@ use Rattle.word.proofs.Claims.{one-legal-word, legal-accepted, capacity-bounds}
 use Rattle.rows.specs.declared.shape.Shape.{Shape}
 use Rattle.rows.specs.Page.{page256, page512, shapeFor, shapeOf, tail, firstRecord, firstPage, filledPage, FirstRoundOf}
 use Rattle.rows.specs.Code.{fillCode, FitsOf, outcomeOf}
-use Rattle.rows.proofs.Shapes.{for-512, for-other, sizes, sound256, sound512, sound-for}
+use Rattle.rows.proofs.Shapes.{for-512, for-other, sizes, sound256, sound512, sound-of}
 use Rattle.page.specs.Answer.{writeFirstChecks, writeFirstAnswer, firstChecks, readFirstChecks, readFirstAnswer}
 use Rattle.page.proofs.FirstAnswers.{write-first, write-first-1, write-first-2, write-first-4, read-first, read-first-1567, read-first-3, check-refusals, check-taken}
 use Rattle.filled.specs.Answer.{fillPageAnswer, fillPageLeaves, filledChecks, capacityChecks, pageCapacityAnswer}
@@ -70,7 +70,7 @@ word-capacity w c = Iff·trans (legal-accepted .exactly w _ c) (λ h. (h .0, h .
 page-capacity : (P : List ℕ) (c : ℕ) → Bytes P
     → (pageCapacityAnswer P ≡ result c) ↔ ((FirstRound P × (c ≡ dataCellsOf (shapeOf P) P)) ⊎ (Filled P × (c ≡ filledCellsOf (shapeOf P) P)))
 page-capacity P c b =
-    let f = sound-for (length P) in
+    let f = sound-of P in
     Iff·trans (capacity-taken (shapeOf P) P c b) (
       λ h. ⊎-elim (λ g. inl (g .0, g .1 ∙ capacity-is f P (g .0))) (λ g. inr (g .0, g .1 ∙ room-is f P (g .0))) h,
       λ h. ⊎-elim (λ g. inl (g .0, g .1 ∙ sym (capacity-is f P (g .0)))) (λ g. inr (g .0, g .1 ∙ sym (room-is f P (g .0)))) h,

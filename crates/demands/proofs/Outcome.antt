@@ -18,7 +18,7 @@ use Rattle.word.specs.Fill.{fillFrom, fill, read, capacity, put}
 use Rattle.rows.specs.declared.shape.Shape.{Shape}
 use Rattle.rows.specs.Page.{page256, shapeOf, blankOf, fillAll, sumOver, capacityAll, putAll, firstPage, filledPage, FirstRoundOf}
 use Rattle.rows.specs.Code.{Code, fillCode, roomFor, ReadyOf, FitsOf, writtenOf, outcomeOf}
-use Rattle.rows.proofs.Shapes.{Sound, sound256, sound-for, own-shape}
+use Rattle.rows.proofs.Shapes.{Sound, sound256, sound-of, own-shape}
 use Rattle.page.specs.Answer.{writeFirstAnswer, writeFirstLeaves, writeAnswer, writeLeaves}
 use Rattle.page.proofs.FirstAnswers.{write-first, check-taken}
 use Rattle.filled.specs.Answer.{fillPageAnswer, fillPageLeaves}
@@ -122,7 +122,7 @@ first-keeps P D =
 fill-keeps : (P : List ℕ) → Bytes P → Keeps P (fillPageLeaves P)
 fill-keeps P h =
     keeps-after (fillPageAnswer P) P (filledPage (shapeOf P) P) (λ v e.
-    let f = sound-for (length P) in
+    let f = sound-of P in
     let p = check-taken (shapeOf P) P _ v h .0 e .0 in
     subst (Keeps P) (fill-leaves f P p) (fill-writing f .ahead-clears-none P p))
 
@@ -140,7 +140,7 @@ no-cell-cleared = record {
   write-first = first-keeps;
   fill-page = fill-keeps;
   write-second = λ P R.
-      let f = sound-for (length P) in
+      let f = sound-of P in
       write-keeps fillCode P R (written-keeps f fill-laws (told-fill f) (own-shape f) (ahead-fill f));
   write-inspect = λ P R. write-keeps inspectCode P R (written-keeps sound256 inspect-laws told-inspect holds-inspect ahead-inspect);
 }

@@ -76,5 +76,8 @@ sound-for k = go (eqb k 512)
     go true = sound512
     go false = sound256
 
+pub sound-of : (page : List ℕ) → Sound (shapeOf page)
+sound-of page = sound-for (length page)
+
 pub sound-found : (σ : Shape) (k : ℕ) → σ ≡ shapeFor k → Sound σ
 sound-found σ k e = subst Sound (sym e) (sound-for k)

@@ -14,7 +14,6 @@ use Rattle.cells.proofs.Numbers.{length-cells}
 use Rattle.answer.specs.Answer.{Check, refuse, answer, None}
 use Rattle.answer.specs.Layout.{Faithful, FaithfulParts, Small}
 use Rattle.answer.proofs.Apart.{taken-apart, parts-apart}
-use Rattle.answer.proofs.Tells.{less, unequal, either}
 use Rattle.window.specs.Words.{pieces, pageWords}
 use Rattle.window.proofs.Words.{length-pageWords}
 use Rattle.word.specs.Fill.{fill, fillPulses, read, capacity}
@@ -24,9 +23,12 @@ use Rattle.word.proofs.Sums.{sum-fits, word-lt}
 use Rattle.word.proofs.Filling.{capacity-le, length-fill}
 use Rattle.word.proofs.FreeCells.{fill-lt}
 use Rattle.word.proofs.Pulses.{fillPulses-le}
-use Rattle.rows.specs.Page.{page256, state, stateFirst, recordLength, byte2, lowest, sumOver, pulsesAll, capacityAll, readAll}
+use Rattle.rows.specs.declared.shape.Shape.{Shape}
+use Rattle.rows.specs.Page.{page256, shapeOf, state, stateFirst, recordLength, lowest, sumOver, pulsesAll, capacityAll, readAll}
 use Rattle.rows.specs.Code.{Code, fillCode, longest, roomFor, judgedOf}
+use Rattle.rows.proofs.Headers.{header-tells}
 use Rattle.rows.proofs.Lowest.{lowest-le}
+use Rattle.rows.proofs.Shapes.{Sound, sound256, sound-of}
 use Rattle.page.specs.Answer.{writeFirstChecks, stateChecks, firstChecks, readFirstChecks, writeChecks, recordChecks, readChecks}
 use Rattle.filled.specs.Answer.{capacityChecks, roomFilled, roomOf}
 use Rattle.walk.specs.Walk.{taken}
@@ -76,40 +78,12 @@ sums-small count h zero l = omega arith
 sums-small count h (suc n) l =
     omega (arith, length-take 46 l, min-le-left 46 (length l), h (take 46 l), sums-small count h n (drop 46 l))
 
-fill-small : (P : List ℕ) → pulsesAll (pageWords P 44) < 2 ^ 56
-unfolding pageWords
-fill-small P = omega (arith, sums-small fillPulses fillPulses-le 44 (drop 24 (bits P)))
-
-page-small : (P : List ℕ) → capacityAll (pageWords P 44) < 2 ^ 56
-unfolding pageWords
-page-small P = omega (arith, sums-small capacity capacity-few 44 (drop 24 (bits P)))
-
-word-small : (test : List Bool → Bool) (P : List ℕ) → lowest test (pageWords P 44) < 2 ^ 56
-word-small test P = omega (arith, lowest-le test (pageWords P 44), length-pageWords P 44)
-
--- the data cells of a filled page
 cells-small : (n : ℕ) (l : List Bool) → length (readAll (pieces n l)) ≤ 23 * n
 unfolding readAll pieces read
 cells-small zero l = omega arith
 cells-small (suc n) l =
     let m : length (take 46 l) ≤ 46 = omega (arith, length-take 46 l, min-le-left 46 (length l)) in
     omega (arith, m, capacity-le false (take 46 l), length-append (read (take 46 l)) (readAll (pieces n (drop 46 l))), cells-small n (drop 46 l))
-
-filled-small : (P : List ℕ) → roomFilled page256 P < 2 ^ 56
-unfolding pageWords
-filled-small P = omega (arith, cells-small 44 (drop 24 (bits P)))
-
-room-small : (P : List ℕ) → roomOf page256 P < 2 ^ 56
-unfolding roomOf
-room-small P = go (eqb (state P) 3)
-  where
-    go : (b : Bool) → cond b (roomFilled page256 P) (capacityAll (pageWords P 44)) < 2 ^ 56
-    go true = filled-small P
-    go false = page-small P
-
--- the checks of a page without a second record
-state-small : (k : ℕ) (test : List Bool → Bool) (P : List ℕ) (cs : List Check) → Small cs → Small (stateChecks k test page256 P ++ cs)
-state-small k test P cs h = (omega arith, (omega arith, (omega arith, (word-small test P, h))))
 
 takenAll-pieces : (n : ℕ) (l bs : List Bool) → takenAll (pieces n l) bs ≤ 46 * n
 unfolding takenAll pieces
@@ -118,10 +92,60 @@ takenAll-pieces (suc n) l bs =
     let w = take 46 l in
     omega (arith, taken-most w bs, length-take 46 l, min-le-left 46 (length l), takenAll-pieces n (drop 46 l) (drop (taken w bs) bs))
 
--- the bits that the walks take
-taken-small : (P R : List ℕ) → roomFor inspectCode page256 P R < 2 ^ 56
-unfolding pageWords
-taken-small P R = omega (arith, takenAll-pieces 44 (drop 24 (bits P)) (bits R))
+-- over any sound shape of page
+module _ {σ : Shape} (f : Sound σ) (P : List ℕ) where
+  abbrev n : ℕ
+  n = σ .words
+
+  fill-small : pulsesAll (pageWords P n) < 2 ^ 56
+  unfolding pageWords
+  fill-small = omega (arith, sums-small fillPulses fillPulses-le n (drop 24 (bits P)), f .few)
+
+  page-small : capacityAll (pageWords P n) < 2 ^ 56
+  unfolding pageWords
+  page-small = omega (arith, sums-small capacity capacity-few n (drop 24 (bits P)), f .few)
+
+  word-small : (test : List Bool → Bool) → lowest test (pageWords P n) < 2 ^ 56
+  word-small test = omega (arith, lowest-le test (pageWords P n), length-pageWords P n, f .few)
+
+  -- the data cells of a filled page
+  filled-small : roomFilled σ P < 2 ^ 56
+  unfolding pageWords
+  filled-small = omega (arith, cells-small n (drop 24 (bits P)), f .few)
+
+  room-small : roomOf σ P < 2 ^ 56
+  unfolding roomOf
+  room-small = go (eqb (state P) 3)
+    where
+      go : (b : Bool) → cond b (roomFilled σ P) (capacityAll (pageWords P n)) < 2 ^ 56
+      go true = filled-small
+      go false = page-small
+
+  -- the bits that the walks take
+  taken-small : (R : List ℕ) → roomFor inspectCode σ P R < 2 ^ 56
+  unfolding pageWords
+  taken-small R = omega (arith, takenAll-pieces n (drop 24 (bits P)) (bits R), f .few)
+
+  -- the checks of a page without a second record, and with one check more
+  state-small : (k : ℕ) (test : List Bool → Bool) (cs : List Check) → Small cs → Small (stateChecks k test σ P ++ cs)
+  state-small k test cs h = (omega arith, (omega arith, (omega arith, (word-small test, h))))
+
+  state-one : (k : ℕ) (test : List Bool → Bool) (b : Bool) (m i : ℕ) → i < 2 ^ 56 → Small (stateChecks k test σ P ++ (refuse b m i ∷ []))
+  state-one k test b m i h = state-small k test (refuse b m i ∷ []) (h, tt)
+
+  -- the checks of a code's writer and of its reader, and the reader's result: the length is at most the longest record's where no check refuses
+  writer-small : (c : Code) (R : List ℕ) → roomFor c σ P R < 2 ^ 56 → Small (writeChecks c σ P R)
+  unfolding writeChecks
+  writer-small c R h = state-one (c .over) (c .takes) (ltb (roomFor c σ P R) (8 * length R)) 8 (roomFor c σ P R) h
+
+  reader-small : (c : Code) (out : List ℕ) → length (judgedOf c σ P) ≡ n → Small (readChecks c σ P out)
+  unfolding readChecks recordChecks
+  reader-small c out e =
+      (omega arith, (omega arith, (omega arith, (omega (arith, lowest-le (c .passes) (judgedOf c σ P), f .few), (omega arith, (omega arith, tt))))))
+
+  length-small : (c : Code) (out : List ℕ) → longest c σ < 2 ^ 56 → None (readChecks c σ P out) → recordLength P < 2 ^ 56
+  unfolding readChecks recordChecks
+  length-small c out m h = omega (arith, header-tells n P (longest c σ) .if-not (h .1 .1 .0) .0)
 
 -- a file's length: there are at most 64 pages where no check refuses
 file-small : (d : ℕ) (P out : List ℕ) → None (writeFileChecks d P out) → length (fileOf d P) < 2 ^ 56
@@ -131,42 +155,33 @@ file-small d P out h =
     let n = length P / 256 in
     omega (arith, k .0, k .1, length-file d n P (omega (arith, k .0)))
 
--- with one check more
-state-one : (k : ℕ) (test : List Bool → Bool) (P : List ℕ) (b : Bool) (n i : ℕ) → i < 2 ^ 56 → Small (stateChecks k test page256 P ++ (refuse b n i ∷ []))
-state-one k test P b n i h = state-small k test P (refuse b n i ∷ []) (h, tt)
-
--- the checks of a code's writer and of its reader, and the reader's result: the length is at most the longest record's where no check refuses
-writer-small : (c : Code) (P R : List ℕ) → roomFor c page256 P R < 2 ^ 56 → Small (writeChecks c page256 P R)
-unfolding writeChecks
-writer-small c P R h = state-one (c .over) (c .takes) P (ltb (roomFor c page256 P R) (8 * length R)) 8 (roomFor c page256 P R) h
-
-reader-small : (c : Code) (P out : List ℕ) → length (judgedOf c page256 P) ≡ 44 → Small (readChecks c page256 P out)
-unfolding readChecks recordChecks
-reader-small c P out e =
-    (omega arith, (omega arith, (omega arith, (omega (arith, lowest-le (c .passes) (judgedOf c page256 P)), (omega arith, (omega arith, tt))))))
-
-length-small : (c : Code) (P out : List ℕ) → longest c page256 < 2 ^ 56 → None (readChecks c page256 P out) → recordLength P < 2 ^ 56
-unfolding readChecks recordChecks
-length-small c P out m h =
-    let k = either (less (longest c page256) (recordLength P)) (unequal (byte2 P) 0) .if-not (h .1 .1 .0) in
-    omega (arith, k .0)
-
 pub page-answers-faithful : PageAnswersFaithful
 unfolding writeFirstChecks firstChecks readFirstChecks capacityChecks writeFileChecks
 page-answers-faithful = record {
-  write-first = λ P D. taken-apart (writeFirstChecks page256 P D) 0 (omega arith, (omega arith, (omega arith, tt))) (λ n. omega arith);
-  read-first = λ P out. taken-apart (readFirstChecks page256 P out) 0 (state-one stateFirst legal P (ltb (length out) 176) 3 0 (omega arith)) (λ n. omega arith);
+  write-first = λ P D. taken-apart (writeFirstChecks (shapeOf P) P D) 0 (omega arith, (omega arith, (omega arith, tt))) (λ n. omega arith);
+  read-first = λ P out.
+      taken-apart (readFirstChecks (shapeOf P) P out) 0
+      (state-one (sound-of P) P stateFirst legal (ltb (length out) (shapeOf P .first)) 3 0 (omega arith)) (λ n. omega arith);
   page-capacity = λ P.
-      taken-apart (capacityChecks page256 P) (roomOf page256 P) (omega arith, (omega arith, (omega arith, (word-small _ P, tt)))) (λ n. room-small P);
-  fill-page = λ P. taken-apart (firstChecks page256 P) _ (state-small stateFirst legal P [] tt) (λ n. fill-small P);
-  write-second = λ P R. taken-apart (writeChecks fillCode page256 P R) 0 (writer-small fillCode P R (filled-small P)) (λ n. omega arith);
+      let f = sound-of P in
+      taken-apart (capacityChecks (shapeOf P) P) (roomOf (shapeOf P) P) (omega arith, (omega arith, (omega arith, (word-small f P _, tt))))
+      (λ n. room-small f P);
+  fill-page = λ P.
+      let f = sound-of P in
+      taken-apart (firstChecks (shapeOf P) P) _ (state-small f P stateFirst legal [] tt) (λ n. fill-small f P);
+  write-second = λ P R.
+      let f = sound-of P in
+      taken-apart (writeChecks fillCode (shapeOf P) P R) 0 (writer-small f P fillCode R (filled-small f P)) (λ n. omega arith);
   read-second = λ P out.
-      taken-apart (readChecks fillCode page256 P out) (recordLength P) (reader-small fillCode P out (length-pageWords P 44))
-      (length-small fillCode P out (omega arith));
-  write-inspect = λ P R. taken-apart (writeChecks inspectCode page256 P R) 0 (writer-small inspectCode P R (taken-small P R)) (λ n. omega arith);
+      let f = sound-of P in
+      taken-apart (readChecks fillCode (shapeOf P) P out) (recordLength P)
+      (reader-small f P fillCode out (length-pageWords P (shapeOf P .words)))
+      (length-small f P fillCode out (omega (arith, f .few)));
+  write-inspect = λ P R.
+      taken-apart (writeChecks inspectCode page256 P R) 0 (writer-small sound256 P inspectCode R (taken-small sound256 P R)) (λ n. omega arith);
   read-inspect = λ P out.
       taken-apart (readChecks inspectCode page256 P out) (recordLength P)
-      (reader-small inspectCode P out (length-unwalkedAll (8 * recordLength P) (pageWords P 44) ∙ length-pageWords P 44))
-      (length-small inspectCode P out (omega arith));
+      (reader-small sound256 P inspectCode out (length-unwalkedAll (8 * recordLength P) (pageWords P 44) ∙ length-pageWords P 44))
+      (length-small sound256 P inspectCode out (omega arith));
   write-file = λ d P out. taken-apart (writeFileChecks d P out) _ (omega arith, (omega arith, tt)) (file-small d P out);
 }

@@ -5,7 +5,7 @@ use crate::answer::{number, pulses_in, value, Answer};
 use crate::case::Place;
 use crate::cases::files::DEVICES;
 use crate::cases::inspect::{bits_in, byte_ends};
-use crate::cases::words::{END_VALUES, OPEN_VALUES};
+use crate::cases::words::END_VALUES;
 use crate::coverage::Coverage;
 use crate::file::file_bytes;
 use crate::page::{known_shape, page_capacity, read_second, Words, FILLED, INSPECTED, SECOND_ROUND};
