@@ -7,8 +7,8 @@ ghost use Rattle.rows.specs.Page.{page256, shapeFor, tail, badHeader};
 
 // A shape of page: its size in bytes, the number of its words, and the bytes of its first record. The definitions use this very record.
 pub struct Shape {
-    pub size: usize,
     pub words: usize,
+    pub size: usize,
     pub first: usize,
 }
 
@@ -17,8 +17,8 @@ pub fn small_page() -> Shape
     ensures { λ r. ⌜ r ≡ page256 ⌝ }
 {
     Shape {
-        size: 256,
         words: 44,
+        size: 256,
         first: 176,
     }
 }
@@ -29,8 +29,8 @@ pub fn shape_of(length: usize) -> Shape
 {
     if length == 512 {
         return Shape {
-            size: 512,
             words: 88,
+            size: 512,
             first: 352,
         };
     }

@@ -145,7 +145,7 @@ pub fn pulses(legal: &Cells) -> usize {
 /// The data cells that reading back finds: "a 0 is passed over; a 1 is a separator, the next cell is a bit of data, and
 /// reading goes on after that".
 pub fn read_back(cells: &Cells) -> Vec<usize> {
-    let mut found = Vec::new();
+    let mut found = Vec::with_capacity(CELLS / 2);
     let mut cell = 0;
     while cell < CELLS {
         if cells[cell] {

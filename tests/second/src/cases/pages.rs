@@ -98,9 +98,21 @@ pub fn with_flip(mut page: Vec<u8>, bit: usize) -> Vec<u8> {
     page
 }
 
+/// The number of this cell's bit, counted from the highest bit of byte 0.
+fn bit_of(index: usize, cell: usize) -> usize {
+    24 + CELLS * index + cell
+}
+
+/// The page with this cell of this word set.
+pub fn with_cell(mut page: Vec<u8>, index: usize, cell: usize) -> Vec<u8> {
+    let bit = bit_of(index, cell);
+    page[bit / 8] |= 0x80 >> (bit % 8);
+    page
+}
+
 /// The page with cell 45 of this word flipped.
 pub fn with_cell_45_flipped(page: Vec<u8>, index: usize) -> Vec<u8> {
-    with_flip(page, 24 + CELLS * index + LAST_CELL)
+    with_flip(page, bit_of(index, LAST_CELL))
 }
 
 /// The filled page without one of the separators of this word but 45.
@@ -111,11 +123,8 @@ pub fn without_separator(random: &mut Random, filled: Vec<u8>, index: usize) -> 
 
 /// The filled or second-round page with this data cell set, counted from 0 over the page.
 pub fn with_data_cell(page: Vec<u8>, place: usize) -> Vec<u8> {
-    let words = page::words_of(&page);
-    let (index, cell) = page::data_cells_of(&words)[place];
-    let mut cells = words[index];
-    cells[cell] = true;
-    with_word(page, index, cells)
+    let (index, cell) = page::data_cells_of(&page::words_of(&page))[place];
+    with_cell(page, index, cell)
 }
 
 /// The values with another value in this place.

@@ -65,7 +65,8 @@ pub fn calls() -> Vec<Call> {
     }
     small.files_of_every_kind();
     small.records_by_inspect();
-    [small.calls, large.calls].concat()
+    small.calls.extend(large.calls);
+    small.calls
 }
 
 /// A length of the entry's other buffer that is not refused with this page.
@@ -306,14 +307,17 @@ impl Walk {
 
     /// Every data cell set by itself, on a filled page, and in a record or spare.
     fn data_cells(&mut self) {
-        let filled = filled_page(&self.page_of(0));
-        for place in 0..data_cells_of(&words_of(&filled)).len() {
-            self.pages(self.some(&Entry::OF_FILLED_PAGES, place), &with_data_cell(filled.clone(), place));
+        self.data_cells_of(&filled_page(&self.page_of(0)), &Entry::OF_FILLED_PAGES);
+        self.data_cells_of(&second_page(&self.page_of(0), &[0; 20]), &[Entry::ReadSecond]);
+        if self.shape == SMALL {
+            self.data_cells_of(&self.second.clone(), &[Entry::ReadSecond]);
         }
-        for base in [second_page(&self.page_of(0), &[0; 20]), self.second.clone()] {
-            for place in 0..data_cells_of(&words_of(&base)).len() {
-                self.pages(&[Entry::ReadSecond], &with_data_cell(base.clone(), place));
-            }
+    }
+
+    /// Every data cell of this page set by itself, for these entries.
+    fn data_cells_of(&mut self, page: &[u8], entries: &[Entry]) {
+        for (turn, (index, cell)) in data_cells_of(&words_of(page)).into_iter().enumerate() {
+            self.pages(self.some(entries, turn), &with_cell(page.to_vec(), index, cell));
         }
     }
 
@@ -325,7 +329,8 @@ impl Walk {
 
     /// Every choice of the entry's refusals, several times.
     fn refusals_of(&mut self, entry: Entry) {
-        for chosen in (0..choices(entry)).cycle().take(640) {
+        let count = if self.shape == SMALL { 640 } else { 256 };
+        for chosen in (0..choices(entry)).cycle().take(count) {
             let call = combined(&mut self.random, entry, chosen, self.shape);
             self.calls.push(call);
         }

@@ -127,6 +127,15 @@ fn earlier(cells: &Cells, legal: &Cells) -> bool {
     separators == word::filled_earlier(legal) && separators != word::filled(legal)
 }
 
+/// The page of an accepted call, as it is after it.
+fn page_after(call: &Call) -> Vec<u8> {
+    let mut after = call.clone();
+    if call.entry.writes_page() {
+        after.perform().expect("it is accepted");
+    }
+    after.page
+}
+
 /// The counters of calls with pages of this shape, whose buffers lie between canary bytes.
 pub struct OfShape {
     shape: Shape,
@@ -197,9 +206,8 @@ impl OfShape {
     /// Counts what the words of the accepted page of the Inspect code take, as it is after the call.
     fn count_walks(&mut self, call: &Call) {
         let Some(entry) = Entry::OF_INSPECT.iter().position(|&entry| entry == call.entry) else { return };
-        let mut after = call.clone();
-        after.perform().expect("it is accepted");
-        let walks = walks(&words_of(&after.page), 8 * usize::from(after.page[1]));
+        let page = page_after(call);
+        let walks = walks(&words_of(&page), 8 * usize::from(page[1]));
         for (bits, met) in WALK_ENDS.into_iter().zip(&mut self.walks[entry]) {
             let ended = |steps: &Vec<Step>| steps.last().is_some_and(|step| step.next >= LAST_CELL);
             *met += u64::from(walks.iter().any(|steps| steps.len() == bits && ended(steps)));

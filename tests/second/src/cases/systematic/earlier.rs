@@ -10,11 +10,12 @@ use crate::shape::SMALL;
 impl Walk {
     pub fn pages_of_the_earlier_fill(&mut self) {
         self.both_fills();
-        self.earlier_record_lengths();
         self.earlier_exact_fits();
         self.earlier_refusals();
         self.cells_45();
+        // Versions before Change 6 left no page of 512 bytes.
         if self.shape == SMALL {
+            self.earlier_record_lengths();
             self.earlier_flips();
         }
     }
@@ -33,18 +34,18 @@ impl Walk {
     /// Such pages, filled by either fill: they are measured; records up to the longest that fits, and one byte more, are
     /// written over them; and the outcomes are read back.
     fn both_fills(&mut self) {
-        for first in self.firsts_with_open_words() {
-            for filled in FILLINGS.map(|fill| fill(&first)) {
-                self.page_from(&first, Entry::PageCapacity, &filled, 0);
-                self.records_over(&first, &filled);
+        for (turn, first) in self.firsts_with_open_words().iter().enumerate() {
+            for filled in FILLINGS.map(|fill| fill(first)) {
+                self.page_from(first, Entry::PageCapacity, &filled, 0);
+                self.records_over(first, &filled, turn);
             }
         }
     }
 
     /// Records over the page that was filled from this first-round page.
-    fn records_over(&mut self, first: &[u8], filled: &[u8]) {
+    fn records_over(&mut self, first: &[u8], filled: &[u8], turn: usize) {
         let most = most_bytes(first);
-        for length in [0, 1, 40, most - 1, most] {
+        for &length in self.some(&[most, 0, 1, 40, most - 1], turn) {
             self.page_from(first, Entry::WriteSecond, filled, length);
             self.read_back(first, filled, length);
         }
@@ -61,10 +62,10 @@ impl Walk {
     /// capacities, each outcome read back.
     fn earlier_record_lengths(&mut self) {
         for first in [self.page_of(OPEN_SPARSE_VALUE), self.page_of(3), self.first.clone()] {
-            let filled = filled_page_earlier(&first);
+            let (filled, most) = (filled_page_earlier(&first), most_bytes(&first));
             for length in 0..=self.shape.second_bytes_most + 4 {
                 self.page_from(&first, Entry::WriteSecond, &filled, length);
-                if length <= most_bytes(&first) {
+                if length <= most {
                     self.read_back(&first, &filled, length);
                 }
             }
@@ -102,20 +103,21 @@ impl Walk {
             let mut values = END_VALUES;
             values.rotate_left(turn);
             let first = first_page(&by_turns(self.shape, &values));
-            for filled in FILLINGS.map(|fill| fill(&first)) {
+            for (number, filled) in FILLINGS.map(|fill| fill(&first)).iter().enumerate() {
                 let records = [0, 40, most_bytes(&first)].map(|length| self.random.bytes(length));
                 let seconds = records.map(|record| written_over(filled.clone(), &record));
-                (0..self.shape.words).for_each(|index| self.cell_45(&filled, &seconds, index));
+                self.each_cell_45(filled, self.some(&Entry::OF_FILLED_PAGES, turn + number));
+                for second in self.some(&seconds, turn + number) {
+                    self.each_cell_45(second, &[Entry::ReadSecond]);
+                }
             }
         }
     }
 
-    /// Cell 45 of one word flipped on each of these pages.
-    fn cell_45(&mut self, filled: &[u8], seconds: &[Vec<u8>], index: usize) {
-        let page = with_cell_45_flipped(filled.to_vec(), index);
-        self.pages(self.some(&Entry::OF_FILLED_PAGES, index / 8), &page);
-        for second in self.some(seconds, index / 8) {
-            self.pages(&[Entry::ReadSecond], &with_cell_45_flipped(second.clone(), index));
+    /// Cell 45 of each word of this page flipped by itself, for these entries.
+    fn each_cell_45(&mut self, page: &[u8], entries: &[Entry]) {
+        for index in 0..self.shape.words {
+            self.pages(entries, &with_cell_45_flipped(page.to_vec(), index));
         }
     }
 

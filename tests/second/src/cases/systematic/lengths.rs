@@ -37,11 +37,11 @@ impl Walk {
     /// back; and lengths far beyond.
     fn record_lengths(&mut self) {
         for first in [self.page_of(SPARSE_VALUE), self.page_of(0), self.first.clone()] {
-            let filled = filled_page(&first);
+            let (filled, most) = (filled_page(&first), most_bytes(&first));
             for length in 0..=self.shape.second_bytes_most + 4 {
                 self.page(Entry::WriteSecond, &filled, length);
-                if length <= most_bytes(&first) {
-                    let outcome = second_page(&first, &self.random.bytes(length));
+                if length <= most {
+                    let outcome = written_over(filled.clone(), &self.random.bytes(length));
                     self.page(Entry::ReadSecond, &outcome, length);
                 }
             }
