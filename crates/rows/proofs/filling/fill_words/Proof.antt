@@ -32,7 +32,7 @@ fill-word-requires : tie.Need-fill-word-requires Inv-loop μ-loop
 fill-word-requires c κs = loaded-lt _ _ _ (omega arith) (c .load-word .ensures)
 
 store-word-requires : tie.Need-store-word-requires Inv-loop μ-loop
-store-word-requires c κs = (omega arith, filled-small _ _ (c .before .fill-word .ensures))
+store-word-requires c κs = (omega arith, omega arith, filled-small _ _ (c .before .fill-word .ensures))
 
 pulses-of-requires : tie.Need-pulses-of-requires Inv-loop μ-loop
 pulses-of-requires c κs =

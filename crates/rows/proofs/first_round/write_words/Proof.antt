@@ -37,7 +37,7 @@ unfolding weights
 encode-with-requires c κs = refl
 
 store-word-requires : tie.Need-store-word-requires Inv-loop μ-loop
-store-word-requires c κs = (omega arith, omega (arith, c .encode-with .ensures, word-lt (c .before .before .before .four-bytes .result)))
+store-word-requires c κs = (omega arith, omega arith, omega (arith, c .encode-with .ensures, word-lt (c .before .before .before .four-bytes .result)))
 
 add-i : tie.Need-add-i Inv-loop μ-loop
 add-i c = omega arith

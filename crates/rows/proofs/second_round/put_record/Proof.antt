@@ -48,7 +48,7 @@ put-bits-requires : tie.Need-put-bits-requires Inv-loop μ-loop
 put-bits-requires c κs = let f = own (c .before .before .before) in (f .small, f .apart)
 
 store-word-requires : tie.Need-store-word-requires Inv-loop μ-loop
-store-word-requires c κs = (omega arith, put-small _ _ _ (c .put-bits .ensures))
+store-word-requires c κs = (omega arith, omega arith, put-small _ _ _ (c .put-bits .ensures))
 
 turned : (c : tie.After-store-word Inv-loop μ-loop) →
     let l = c .before .before .before .before .before .before .before .before in
