@@ -190,7 +190,7 @@ demand3 = record {
   fill-code = λ s k. fill-writing (sound-known s k);
   inspect = inspect-writing;
   codes-differ = codes-differ;
-  figures = figures-of sound256 660 1012 82 126 refl refl refl refl;
-  figures-512 = figures-of sound512 1320 2024 165 253 refl refl refl refl;
+  figures = figures-of sound256 _ _ _ _ refl refl refl refl;
+  figures-512 = figures-of sound512 _ _ _ _ refl refl refl refl;
   sure-lengths = (refl, refl, refl);
 }

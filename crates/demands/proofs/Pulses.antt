@@ -181,4 +181,4 @@ module _ {σ : Shape} (f : Sound σ) where
   }
 
 pub pulses-of-a-fill : PulsesOfAFill
-pulses-of-a-fill = record { small = pulses-of sound256 1012 refl; large = pulses-of sound512 2024 refl }
+pulses-of-a-fill = record { small = pulses-of sound256 _ refl; large = pulses-of sound512 _ refl }

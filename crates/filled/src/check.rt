@@ -20,7 +20,7 @@ pub enum FilledCheck {
 
 // The tests in document 02's order, of a page by a shape.
 pub fn check_filled(page: &[u8], s: Shape) -> FilledCheck
-    requires { ⌜ (start (s .words) ≤ 8 * s .size) × (s .words < 2 ^ 16) ⌝ }
+    requires { ⌜ (start (s .words) ≤ 8 * s .size) × (s .size < 2 ^ 16) ⌝ }
     ensures { λ r. ⌜ filledCheckCode r ≡ answer (filledChecks s (now (page .entry))) (roomFilled s (now (page .entry))) ⌝ }
 {
     if page.len() != s.size {

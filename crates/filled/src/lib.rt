@@ -60,7 +60,7 @@ pub fn fill_page(page: &mut [u8]) -> PageFilled
 
 // The capacity of a page that is not in state 03: that of a first-round page.
 fn first_capacity(page: &[u8], s: Shape) -> Measured
-    requires { ⌜ (start (s .words) ≤ 8 * s .size) × (s .words < 2 ^ 16) ⌝ }
+    requires { ⌜ (start (s .words) ≤ 8 * s .size) × (s .size < 2 ^ 16) ⌝ }
     ensures { λ r. ⌜ measuredCode r ≡ answer (firstChecks s (now (page .entry))) (roomFirst s (now (page .entry))) ⌝ }
 {
     let c = check_first(page, s);
@@ -75,7 +75,7 @@ fn first_capacity(page: &[u8], s: Shape) -> Measured
 
 // The capacity of a page in state 03: that of a filled page, with no second fill.
 fn filled_capacity(page: &[u8], s: Shape) -> Measured
-    requires { ⌜ (start (s .words) ≤ 8 * s .size) × (s .words < 2 ^ 16) ⌝ }
+    requires { ⌜ (start (s .words) ≤ 8 * s .size) × (s .size < 2 ^ 16) ⌝ }
     ensures { λ r. ⌜ measuredCode r ≡ answer (filledChecks s (now (page .entry))) (roomFilled s (now (page .entry))) ⌝ }
 {
     let c = check_filled(page, s);

@@ -182,7 +182,8 @@ impl Coverage {
     }
 
     fn line_of(&self, entry: Entry, size: Size) -> Option<String> {
-        let answers: Vec<u8> = answers(entry).into_iter().filter(|(of, _)| *of == size).map(|(_, number)| number).collect();
+        let answers: Vec<u8> =
+            answers(entry).into_iter().filter(|(of, _)| *of == size).map(|(_, number)| number).collect();
         let size_name = size.map_or(String::new(), |shape| format!("{} bytes", shape.bytes));
         let counts = answers.iter().map(|&number| self.count_in_words(entry, size, number));
         let line = format!("{:13} {size_name:9}", entry.name()) + &counts.collect::<String>();
@@ -442,7 +443,8 @@ mod tests {
     fn the_lines_of_the_table() {
         let table = Coverage::new().table();
         assert_eq!(table.lines().count(), 5 + 3 * 8);
-        for (name, bytes) in [("read second", "256 bytes"), ("read second", "512 bytes"), ("read inspect", "512 bytes")] {
+        for (name, bytes) in [("read second", "256 bytes"), ("read second", "512 bytes"), ("read inspect", "512 bytes")]
+        {
             assert!(table.lines().any(|line| line.starts_with(name) && line.contains(bytes)), "{name} {bytes}");
         }
     }

@@ -477,9 +477,12 @@ mod tests {
         for (index, bytes) in [(0, [(3, 0x80), (8, 0x04)]), (43, [(250, 0x20), (255, 0x01)])] {
             for (size, words) in [(256, 44), (512, 88)] {
                 let page = first_page(&with_value(vec![0; words], index, value));
-                assert_eq!(page, bytes.iter().fold(with_byte(vec![0; size], 0, 1), |page, &(place, byte)| {
-                    with_byte(page, place, byte)
-                }));
+                assert_eq!(
+                    page,
+                    bytes
+                        .iter()
+                        .fold(with_byte(vec![0; size], 0, 1), |page, &(place, byte)| { with_byte(page, place, byte) })
+                );
             }
         }
         for (index, first, last) in [(44, (256, 0x80), (261, 0x04)), (87, (503, 0x20), (508, 0x01))] {
@@ -588,7 +591,9 @@ mod tests {
             for (place, byte) in (509..512).flat_map(|place| (1..=255).map(move |byte| (place, byte))) {
                 check_refused_6(&with_byte(page.clone(), place, byte));
             }
-            for (place, page) in (509..512).flat_map(|place| with_bad_words(page.clone()).into_iter().map(move |page| (place, page))) {
+            for (place, page) in
+                (509..512).flat_map(|place| with_bad_words(page.clone()).into_iter().map(move |page| (place, page)))
+            {
                 let page = with_byte(page, place, 0x40);
                 check_refused_6(&page);
                 check_refused_6(&with_byte(page.clone(), 1, 254));
@@ -620,9 +625,12 @@ mod tests {
     /// then there are too few data cells, then it is out of range.
     #[test]
     fn every_byte_1_of_a_second_round_page() {
-        for (shape, value, fits, most) in
-            [(SMALL, 0, 126, 126), (SMALL, SPARSE_VALUE, 82, 126), (LARGE, 0, 253, 253), (LARGE, SPARSE_VALUE, 165, 253)]
-        {
+        for (shape, value, fits, most) in [
+            (SMALL, 0, 126, 126),
+            (SMALL, SPARSE_VALUE, 82, 126),
+            (LARGE, 0, 253, 253),
+            (LARGE, SPARSE_VALUE, 165, 253),
+        ] {
             let page = outcome(&page_of(shape, value), &[]);
             for length in 0..=255 {
                 let answer = read_second(&with_byte(page.clone(), 1, length), &mut [0; 255]);

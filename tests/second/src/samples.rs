@@ -188,7 +188,8 @@ fn bad_firsts(random: &mut Random) -> Vec<Vec<u8>> {
 /// Pages of state 03 that are bad 6 and bad 7.
 fn bad_filleds(random: &mut Random) -> Vec<Vec<u8>> {
     let most = filled_page(&page_of(SMALL, 0));
-    let headers = [(1, 1), (1, 126), (2, 1), (2, 0x80)].map(|(place, byte)| with_byte(any_filled(random, SMALL), place, byte));
+    let headers =
+        [(1, 1), (1, 126), (2, 1), (2, 0x80)].map(|(place, byte)| with_byte(any_filled(random, SMALL), place, byte));
     let both = with_byte(with_word(any_filled(random, SMALL), 9, with_bare_hole(random, Hole::Middle)), 2, 1);
     let [start, end] = end_holes();
     let middle = with_bare_hole(random, Hole::Middle);

@@ -613,6 +613,7 @@ mod tests {
     use super::*;
     use crate::answer::{pulses_in, Answer, Refusal};
     use crate::page::{page_capacity, Words, FILLED, FIRST_ROUND};
+    use crate::shape::LARGE;
     use crate::word::{pulses, read_back, separators, separators_from, unwritten, well_formed, Cells, PULSES_MOST};
     use std::collections::HashSet;
     use std::sync::OnceLock;
@@ -620,20 +621,26 @@ mod tests {
     #[test]
     fn size_and_variety() {
         let calls = calls();
-        assert_eq!(calls.len(), 1_588);
-        assert!(text_of(&calls).len() < 420_000);
+        assert_eq!(calls.len(), 2_368);
+        assert!(text_of(&calls).len() < 700_000);
+        assert!(input_of(&calls).len() < 1_000_000);
         assert!(calls.iter().all(|call| call.page.len().max(call.other.len()) <= LENGTH_MOST));
-        let pages: HashSet<_> = calls.iter().map(|call| &call.page).filter(|page| page.len() == SMALL.bytes).collect();
-        assert_eq!(pages.len(), 913);
+        let of_pages = || calls.iter().filter(|call| call.entry.takes_page()).map(|call| &call.page);
+        let different =
+            |shape: Shape| of_pages().filter(|page| page.len() == shape.bytes).collect::<HashSet<_>>().len();
+        assert_eq!(Shape::BOTH.map(different), [913, 0]);
     }
 
     /// Before the calls of write file come those of all other entries but the Inspect code's; after them, those about that
-    /// code.
+    /// code, and at the end those with pages of 512 bytes.
     #[test]
-    fn the_calls_of_write_file_and_of_the_inspect_code_come_last() {
+    fn the_order_of_the_calls() {
+        let before_the_large = calls().len() - large::calls().len();
         for (index, call) in calls().into_iter().enumerate() {
-            assert_eq!(call.entry == Entry::WriteFile, (1_143..1_169).contains(&index), "{index}");
-            assert!(index >= 1_169 || !Entry::OF_INSPECT.contains(&call.entry), "{index}");
+            assert_eq!(call.entry == Entry::WriteFile, (1_194..1_220).contains(&index), "{index}");
+            assert!(index >= 1_220 || !Entry::OF_INSPECT.contains(&call.entry), "{index}");
+            let large = call.page.len() == LARGE.bytes && call.entry.shapes().contains(&LARGE);
+            assert!(index >= before_the_large || !large, "{index}");
         }
     }
 

@@ -38,7 +38,7 @@ shared-slice-read-if2 c =
 filled-capacity-requires : tie.Need-filled-capacity-requires
 filled-capacity-requires c κs =
     let f = found (c .before .before .before .before) in
-    (words-inside f, omega (arith, f .few))
+    (words-inside f, omega (arith, f .small))
 
 returns-2 : tie.Need-returns-2
 returns-2 c =
@@ -48,7 +48,7 @@ returns-2 c =
 first-capacity-requires : tie.Need-first-capacity-requires
 first-capacity-requires c κs =
     let f = found (c .before .before .before .before) in
-    (words-inside f, omega (arith, f .few))
+    (words-inside f, omega (arith, f .small))
 
 returns-3 : tie.Need-returns-3
 returns-3 c =

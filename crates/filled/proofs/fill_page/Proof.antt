@@ -39,7 +39,7 @@ found : (c : tie.After-shape-of) → Sound (c .shape-of .result)
 found c = sound-found _ _ (c .shape-of .ensures)
 
 check-first-requires : tie.Need-check-first-requires
-check-first-requires c κs = let f = found (c .before) in (words-inside f, omega (arith, f .few))
+check-first-requires c κs = let f = found (c .before) in (words-inside f, omega (arith, f .small))
 
 enum-told : tie.Need-enum-told
 enum-told c = search needs

@@ -65,7 +65,7 @@ bad-header-requires : tie.Need-bad-header-requires
 bad-header-requires c κs =
     let sized = c .before .before .before in
     let f = found (sized .before .before) in
-    (omega (arith, f .0 .inside, sized .if1 .left), omega (arith, f .1))
+    (omega (arith, f .0 .inside, sized .if1 .left), omega (arith, f .0))
 
 returns-3 : tie.Need-returns-3
 returns-3 c =

@@ -46,7 +46,7 @@ found : (c : tie.After-shape-of) → Sound (c .shape-of .result)
 found c = sound-found _ _ (c .shape-of .ensures)
 
 check-filled-requires : tie.Need-check-filled-requires
-check-filled-requires c κs = let f = found (c .before) in (words-inside f, omega (arith, f .few))
+check-filled-requires c κs = let f = found (c .before) in (words-inside f, omega (arith, f .small))
 
 enum-known-c : tie.Need-enum-known-c
 enum-known-c c = search needs

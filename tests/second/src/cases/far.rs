@@ -308,7 +308,7 @@ mod tests {
 
     #[test]
     fn the_number_of_calls() {
-        assert_eq!(calls().len(), 693);
+        assert_eq!(calls().len(), 1_097);
     }
 
     #[test]
@@ -431,7 +431,8 @@ mod tests {
     #[test]
     fn lengths_of_which_8_times_is_cut() {
         let both = [(31, (1 << 28) + 20, 160), (32, (1 << 29) + 20, 160), (64, (1 << 61) + 82, 656)];
-        for (bits, wanted, left) in both.into_iter().chain([(64, (1 << 61) + 165, 1_320), (64, (1 << 61) + 253, 2_024)]) {
+        for (bits, wanted, left) in both.into_iter().chain([(64, (1 << 61) + 165, 1_320), (64, (1 << 61) + 253, 2_024)])
+        {
             assert!(WRAPPED_LENGTHS.contains(&wanted));
             assert_eq!(8 * (wanted as u128) % (1 << bits), left, "{bits} bits");
         }

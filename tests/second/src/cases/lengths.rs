@@ -139,7 +139,9 @@ mod tests {
             let met: HashSet<usize> = (0..5_000).map(|_| wrong_page_length(&mut random, entry)).collect();
             assert!(!met.contains(&256));
             assert_eq!(met.contains(&512), Entry::OF_INSPECT.contains(&entry), "{}", entry.name());
-            assert!([0, 1, 255, 257, 300, 384, 508, 509, 511, 513, 768, 1_024].iter().all(|length| met.contains(length)));
+            assert!([0, 1, 255, 257, 300, 384, 508, 509, 511, 513, 768, 1_024]
+                .iter()
+                .all(|length| met.contains(length)));
             assert!(met.iter().filter(|length| (257..512).contains(*length)).count() > 200);
         }
     }
@@ -147,9 +149,7 @@ mod tests {
     #[test]
     fn lengths_that_are_wrong_for_data() {
         let mut random = Random::new(2);
-        for (shape, exact, wanted) in
-            [(SMALL, 176, [0, 175, 177, 352]), (LARGE, 352, [0, 351, 353, 176])]
-        {
+        for (shape, exact, wanted) in [(SMALL, 176, [0, 175, 177, 352]), (LARGE, 352, [0, 351, 353, 176])] {
             let met: HashSet<usize> = (0..2_000).map(|_| wrong_data_length(&mut random, shape)).collect();
             assert!(!met.contains(&exact) && wanted.iter().all(|length| met.contains(length)), "{exact}");
         }

@@ -575,7 +575,8 @@ mod tests {
             (filled_with_header, filled_with_both, measured),
             (second_with_header, second_with_both, read),
         ];
-        for (shape, (alone, both, answer)) in Shape::BOTH.into_iter().flat_map(|shape| makers.map(|three| (shape, three)))
+        for (shape, (alone, both, answer)) in
+            Shape::BOTH.into_iter().flat_map(|shape| makers.map(|three| (shape, three)))
         {
             let met: HashSet<u8> = (0..2_000).map(|_| answer(&alone(&mut random, shape))).collect();
             assert!(met.is_superset(&HashSet::from([0, 6])) && !met.contains(&7), "{met:?}");
@@ -651,7 +652,9 @@ mod tests {
     /// left them.
     #[test]
     fn pages_for_the_entries_after_the_fill() {
-        for (entry, shape) in Entry::AFTER_THE_FILL.into_iter().flat_map(|entry| Shape::BOTH.map(|shape| (entry, shape))) {
+        for (entry, shape) in
+            Entry::AFTER_THE_FILL.into_iter().flat_map(|entry| Shape::BOTH.map(|shape| (entry, shape)))
+        {
             let mut random = Random::new(9);
             let pages = (0..1_000).map(|_| page_for(&mut random, entry, shape));
             let pages: Vec<_> = pages.filter(|page| page[0] > 1).collect();

@@ -354,7 +354,8 @@ mod tests {
     #[test]
     fn the_ends_of_words_count() {
         let (earlier, open) = (WordEnd::Earlier.name(), WordEnd::Open.name());
-        let alone = |shape: Shape| (0..shape.words).map(move |index| with_value(vec![SPARSE_VALUE; shape.words], index, 3));
+        let alone =
+            |shape: Shape| (0..shape.words).map(move |index| with_value(vec![SPARSE_VALUE; shape.words], index, 3));
         let all = |shape: Shape| OPEN_VALUES.map(|value| vec![value; shape.words]);
         for values in Shape::BOTH.into_iter().flat_map(|shape| all(shape).into_iter().chain(alone(shape))) {
             let first = first_page(&values);

@@ -64,9 +64,9 @@ impl Tails {
         let pairs = pairs.flat_map(|entry| entry.states().iter().map(move |&state| (entry, state)));
         let places = pairs.flat_map(|(entry, state)| self.shape.tail().map(move |place| (entry, state, place)));
         let keys = places.flat_map(|(entry, state, place)| {
-            let looks = [Without::Sound, Without::BadWord].into_iter().filter(move |without| {
-                *without == Without::Sound || entry.refusals().contains(&7)
-            });
+            let looks = [Without::Sound, Without::BadWord]
+                .into_iter()
+                .filter(move |without| *without == Without::Sound || entry.refusals().contains(&7));
             looks.map(move |without| (entry, state, place, without))
         });
         keys.map(|key| (name_of(key), self.met.get(&key).copied().unwrap_or(0))).collect()

@@ -1,7 +1,7 @@
 //! The fixed calls with pages of 512 bytes: a few of each kind, since such a page takes twice the room. Where one call of
 //! several would do, it is one that prints no page.
 
-use super::{Script, LENGTH_MOST, OF_FIRST_PAGES};
+use super::{Script, LENGTH_MOST};
 use crate::call::{Call, Entry};
 use crate::cases::files::{any_bytes, ones, zeros, Contents};
 use crate::cases::inspect::{any_inspect, large_inspect};
@@ -11,7 +11,7 @@ use crate::cases::words::{
     sum_too_large, value_with_pulses, with_bare_hole, with_hole, with_neighbours, with_one_data_cell, Hole, EDGE_VALUE,
     END_VALUES, ODD_VALUE, SPARSE_VALUE,
 };
-use crate::page::{data_cells_of, words_of, FIRST_ROUND};
+use crate::page::{data_cells_of, words_of};
 use crate::random::Random;
 use crate::shape::{LARGE, SMALL};
 use crate::word::{cells_with_sum, CELLS, LARGEST_VALUE};
@@ -21,6 +21,23 @@ const SEED: u64 = 2_024;
 /// The first two words, one in the middle, those about byte 256, and the last two: word 43 ends with byte 255, and word 44
 /// starts with byte 256.
 const INDICES: [usize; 8] = [0, 1, 21, 43, 44, 45, 86, 87];
+
+/// A valid page of each state; the last as the Inspect code would leave it.
+const MAKERS: [Maker; 5] = [blank, any_first, any_filled, any_second, any_inspect];
+
+/// For pages of each state but a blank one, an entry that takes them and prints no page.
+const READERS: [(Maker, Entry); 4] = [
+    (any_first, Entry::ReadFirst),
+    (any_first, Entry::PageCapacity),
+    (any_filled, Entry::PageCapacity),
+    (any_second, Entry::ReadSecond),
+];
+
+/// The same for those that print one.
+const WRITERS: [(Maker, Entry); 2] = [(any_first, Entry::FillPage), (any_filled, Entry::WriteSecond)];
+
+/// What follows a page of 256 bytes in a buffer of 512.
+const AFTER_A_PAGE: [Contents; 3] = [zeros, ones, any_bytes];
 
 /// The calls with pages of 512 bytes. Their bytes are drawn apart from those of the other calls.
 pub fn calls() -> Vec<Call> {
@@ -118,7 +135,9 @@ impl Script {
     /// Cell 45 of chosen words flipped, of words that end in each way, on filled pages and under records of 20 bytes; and
     /// any bit flipped.
     fn large_ends(&mut self) {
-        for (index, (turn, value)) in [44, 87].into_iter().flat_map(|index| (0..).zip(END_VALUES).map(move |end| (index, end))) {
+        for (index, (turn, value)) in
+            [44, 87].into_iter().flat_map(|index| (0..).zip(END_VALUES).map(move |end| (index, end)))
+        {
             let first = first_page(&with_value(any_values(&mut self.random, LARGE), index, value));
             let filled = FILLINGS[turn % 2](&first);
             let second = written_over(filled.clone(), &self.random.bytes(20));
@@ -159,15 +178,10 @@ impl Script {
         let states = [(0, 0x00), (0, 0x02), (0, 0x81)];
         let header_bytes = [(1, 1), (1, 254), (1, 255), (2, 1), (2, 128)];
         for (turn, (place, byte)) in states.into_iter().chain(header_bytes).enumerate() {
-            let first = with_byte(any_first(&mut self.random, LARGE), place, byte);
-            OF_FIRST_PAGES[..2].iter().for_each(|&entry| self.page_with(entry, &first, 9));
-            let filled = with_byte(any_filled(&mut self.random, LARGE), place, byte);
-            self.page_with(Entry::PageCapacity, &filled, 0);
-            let second = with_byte(any_second(&mut self.random, LARGE), place, byte);
-            self.page_with(Entry::ReadSecond, &second, 9);
-            // The writers, by turns.
-            let [(entry, page)] = [[(Entry::FillPage, first)], [(Entry::WriteSecond, filled)]][turn % 2].clone();
-            self.page_with(entry, &page, 9);
+            for (maker, entry) in READERS.into_iter().chain([WRITERS[turn % 2]]) {
+                let page = maker(&mut self.random, LARGE);
+                self.page_with(entry, &with_byte(page, place, byte), 9);
+            }
         }
     }
 
@@ -175,7 +189,7 @@ impl Script {
     fn tails(&mut self) {
         for (turn, place) in LARGE.tail().enumerate() {
             let byte = [0x01, 0x80, 0xFF][turn];
-            for maker in [blank, any_first, any_filled, any_second] {
+            for maker in &MAKERS[..4] {
                 let page = with_byte(maker(&mut self.random, LARGE), place, byte);
                 for entry in Entry::taking(page[0], LARGE) {
                     self.page_with(entry, &page, if entry == Entry::WriteFirst { LARGE.first_bytes } else { 9 });
@@ -187,28 +201,26 @@ impl Script {
     /// The same with byte 1 or byte 2 out of its range, or with another of these bytes, and with a word that is not sound:
     /// 6 comes before 7.
     fn tails_and_more(&mut self) {
-        let makers: [(Maker, Entry); 4] = [
-            (any_first, Entry::ReadFirst),
-            (any_first, Entry::PageCapacity),
-            (any_filled, Entry::PageCapacity),
-            (any_second, Entry::ReadSecond),
-        ];
-        for (place, (maker, entry)) in LARGE.tail().flat_map(|place| makers.map(|pair| (place, pair))) {
+        for (place, (maker, entry)) in LARGE.tail().flat_map(|place| READERS.map(|pair| (place, pair))) {
             let page = with_byte(maker(&mut self.random, LARGE), place, self.random.byte_from(1));
-            let index = INDICES[self.random.below(INDICES.len())];
-            // Two neighbours set, a data cell set, and a hole.
-            let word = with_word(page.clone(), index, std::array::from_fn(|cell| cell < 3));
-            let others = [1, 2, 509 + (place - 508) % 3].map(|other| with_byte(page.clone(), other, 0xFE));
-            for page in others.into_iter().chain([word]) {
-                self.page_with(entry, &page, 9);
+            for other in [1, 2, 509 + (place - 508) % 3] {
+                self.page_with(entry, &with_byte(page.clone(), other, 0xFE), 9);
+            }
+        }
+        // Two neighbours set, a data cell set, and a hole.
+        let bad = std::array::from_fn(|cell| cell < 3);
+        for place in LARGE.tail() {
+            for (maker, entry) in READERS.into_iter().chain(WRITERS) {
+                let page = with_byte(maker(&mut self.random, LARGE), place, self.random.byte_from(1));
+                let index = self.random.pick(&INDICES);
+                self.page_with(entry, &with_word(page, index, bad), 9);
             }
         }
     }
 
     /// Valid pages of another state than the entry's, and cells that are sound in states 01, 03 and 07 alike.
     fn large_states(&mut self) {
-        let makers: [Maker; 5] = [blank, any_first, any_filled, any_second, any_inspect];
-        let pages = makers.map(|page| page(&mut self.random, LARGE));
+        let pages = MAKERS.map(|page| page(&mut self.random, LARGE));
         let entries = [Entry::ReadFirst, Entry::PageCapacity, Entry::FillPage, Entry::WriteSecond, Entry::ReadSecond];
         for (entry, page) in entries.into_iter().flat_map(|entry| pages.iter().map(move |page| (entry, page))) {
             if !entry.states().contains(&page[0]) {
@@ -225,7 +237,7 @@ impl Script {
     /// Pages of 512 bytes that are cut, or followed by other bytes, to lengths that no page has.
     fn large_lengths(&mut self) {
         for length in wrong_page_lengths(Entry::ReadFirst).into_iter().filter(|&length| length > SMALL.bytes) {
-            for (maker, entry) in [(any_first as Maker, Entry::ReadFirst), (any_filled, Entry::PageCapacity), (any_second, Entry::ReadSecond)] {
+            for (maker, entry) in READERS {
                 let page = maker(&mut self.random, LARGE);
                 let page = resized(&mut self.random, page, length);
                 self.page_with(entry, &page, 11);
@@ -239,27 +251,19 @@ impl Script {
     /// A page of 256 bytes in a buffer of 512, before zeros, ones and any bytes, with bytes 509 to 511 at 0 and not; and a
     /// page of 512 bytes cut to 256.
     fn other_sizes(&mut self) {
-        let makers: [Maker; 4] = [any_first, any_first, any_filled, any_second];
-        for (turn, (maker, after)) in makers.into_iter().flat_map(|maker| [zeros as Contents, ones, any_bytes].map(|after| (maker, after))).enumerate() {
-            let page = maker(&mut self.random, SMALL);
-            let page = resized_with(&mut self.random, page, LARGE.bytes, after);
-            let mut sound = page.clone();
-            sound[LARGE.tail()].fill(0);
-            for entry in [Entry::PageCapacity, Entry::ReadSecond] {
+        for (maker, entry) in READERS.into_iter().chain(WRITERS) {
+            for after in AFTER_A_PAGE {
+                let page = maker(&mut self.random, SMALL);
+                let page = resized_with(&mut self.random, page, LARGE.bytes, after);
+                let mut sound = page.clone();
+                sound[LARGE.tail()].fill(0);
                 self.page_with(entry, &page, 20);
-                self.page_with(entry, &sound, 126);
-            }
-            if turn < 3 {
-                self.page_with(Entry::ReadFirst, &sound, LARGE.first_bytes);
-                self.page_with(Entry::FillPage, &sound, 0);
+                self.page_with(entry, &sound, if entry == Entry::ReadFirst { LARGE.first_bytes } else { 20 });
             }
         }
-        self.page_with(Entry::WriteFirst, &[0; 512], SMALL.first_bytes);
-        for (maker, length) in [(any_first as Maker, 0), (any_filled, 0), (any_second, 0)] {
-            let page = maker(&mut self.random, LARGE)[..SMALL.bytes].to_vec();
-            [Entry::ReadFirst, Entry::PageCapacity, Entry::ReadSecond].into_iter().for_each(|entry| {
-                self.page_with(entry, &page, SMALL.first_bytes + length);
-            });
+        for (maker, entry) in READERS {
+            let page = maker(&mut self.random, LARGE);
+            self.page_with(entry, &page[..SMALL.bytes], SMALL.first_bytes);
         }
         for length in [0, 20, 127, 200] {
             let second = second_page(&page_of(LARGE, 0), &self.random.bytes(length));
@@ -293,16 +297,186 @@ impl Script {
     /// The entries of the Inspect code refuse 512 bytes by 1 in every state: valid pages, what the code would leave there,
     /// and a page of 256 bytes before others.
     fn refused_by_inspect(&mut self) {
-        let makers: [Maker; 5] = [blank, any_first, any_filled, any_second, any_inspect];
-        for page in makers.map(|page| page(&mut self.random, LARGE)) {
+        for page in MAKERS.map(|page| page(&mut self.random, LARGE)) {
             Entry::OF_INSPECT.into_iter().for_each(|entry| self.page_with(entry, &page, 20));
         }
-        let first = page_of(LARGE, 0);
-        let small = [any_first as Maker, any_inspect].map(|page| page(&mut self.random, SMALL));
-        let small = small.map(|page| resized_with(&mut self.random, page, LARGE.bytes, zeros));
-        for page in [&[large_inspect(&first, &[]), large_inspect(&first, &[0; 247])][..], &small].concat() {
-            let entry = if page[0] == FIRST_ROUND { Entry::WriteInspect } else { Entry::ReadInspect };
+        for length in [0, 247] {
+            let page = large_inspect(&page_of(LARGE, 0), &vec![0; length]);
+            self.page_with(Entry::ReadInspect, &page, length);
+        }
+        let [first, inspect] = [any_first, any_inspect].map(|page| page(&mut self.random, SMALL));
+        for (entry, page) in [(Entry::WriteInspect, first), (Entry::ReadInspect, inspect)] {
+            let page = resized_with(&mut self.random, page, LARGE.bytes, zeros);
             self.page_with(entry, &page, 247);
         }
+    }
+}
+
+#[cfg(test)]
+mod tests {
+    use super::*;
+    use crate::answer::{number, Answer, Refusal};
+    use crate::case::Place;
+    use crate::coverage::Coverage;
+    use std::collections::HashSet;
+    use std::sync::OnceLock;
+
+    /// Each call and its answer.
+    fn answered() -> &'static [(Call, Answer)] {
+        static ANSWERED: OnceLock<Vec<(Call, Answer)>> = OnceLock::new();
+        let with_answer = |call: Call| {
+            let answer = call.clone().perform();
+            (call, answer)
+        };
+        ANSWERED.get_or_init(|| calls().into_iter().map(with_answer).collect())
+    }
+
+    /// What `class` tells of the calls of the entry with a page of this length, and their answers.
+    fn met<T>(entry: Entry, length: usize, class: impl Fn(&Call) -> T) -> Vec<(T, Answer)> {
+        let of_entry = answered().iter().filter(|(call, _)| call.entry == entry && call.page.len() == length);
+        of_entry.map(|(call, answer)| (class(call), *answer)).collect()
+    }
+
+    /// Each entry is accepted on 512 bytes, and refused by each of its numbers but 1; those of the Inspect code refuse by 1
+    /// alone, in every state.
+    #[test]
+    fn every_answer_on_512_bytes() {
+        for entry in Entry::OF_PAGES {
+            let met: HashSet<u8> = met(entry, 512, |_| ()).into_iter().map(|(_, answer)| number(answer)).collect();
+            let all: HashSet<u8> = [0].iter().chain(entry.refusals()).copied().filter(|&number| number != 1).collect();
+            let wanted = if Entry::OF_INSPECT.contains(&entry) { HashSet::from([1]) } else { all };
+            assert_eq!(met, wanted, "{}", entry.name());
+        }
+        for entry in Entry::OF_INSPECT {
+            let states: HashSet<u8> =
+                met(entry, 512, |call| call.page[0]).into_iter().map(|(state, _)| state).collect();
+            assert_eq!(states, HashSet::from([0x00, 0x01, 0x03, 0x07, 0x09]));
+        }
+    }
+
+    /// "a record of up to 165 bytes fits each such page, and its byte 1 goes to 253".
+    #[test]
+    fn the_figures_of_change_8() {
+        let written = met(Entry::WriteSecond, 512, |call| (call.page.clone(), call.other.len()));
+        for (value, most, capacity) in [(0, 253, 2_024), (SPARSE_VALUE, 165, 1_320)] {
+            let page = filled_page(&page_of(LARGE, value));
+            let refused = Err(Refusal::record_length(capacity));
+            for (length, answer) in [(most, Ok(0)), (most + 1, refused), (0, Ok(0)), (1, Ok(0))] {
+                assert!(written.contains(&((page.clone(), length), answer)), "{value} {length}");
+            }
+        }
+        let filled = met(Entry::FillPage, 512, |call| call.page.clone());
+        for (value, pulses) in [(0, 2_024), (SPARSE_VALUE, 0)] {
+            assert!(filled.contains(&(page_of(LARGE, value), Ok(pulses))), "never {pulses} pulses");
+        }
+        let measured = met(Entry::PageCapacity, 512, |call| call.page[0]);
+        for (state, capacity) in [(1, 1_320), (1, 2_024), (3, 1_320), (3, 2_024)] {
+            assert!(measured.contains(&(state, Ok(capacity))), "never {capacity} in state {state}");
+        }
+    }
+
+    /// Each of bytes 509 to 511 by itself, for each entry and each state that it takes, over a sound page and before 7.
+    #[test]
+    fn every_byte_after_the_words() {
+        let mut coverage = Coverage::new();
+        answered().iter().for_each(|(call, answer)| coverage.count(call, Place::Canaries, *answer));
+        let of_tails = coverage.wanted().into_iter().filter(|(name, _)| name.contains(" by byte "));
+        let missing: Vec<String> = of_tails.filter(|(_, met)| *met == 0).map(|(name, _)| name).collect();
+        assert_eq!(missing, [""; 0]);
+    }
+
+    /// 7 names each of the chosen words in each state.
+    #[test]
+    fn every_chosen_word() {
+        for (entry, state) in
+            [(Entry::ReadFirst, 1), (Entry::PageCapacity, 1), (Entry::PageCapacity, 3), (Entry::ReadSecond, 7)]
+        {
+            let met = met(entry, 512, |call| call.page[0]);
+            for index in INDICES {
+                assert!(met.contains(&(state, Err(Refusal::word(index)))), "{} {state} {index}", entry.name());
+            }
+        }
+        for (entry, index) in WRITERS.into_iter().flat_map(|(_, entry)| [0, 43, 44, 86].map(|index| (entry, index))) {
+            assert!(met(entry, 512, |_| ()).contains(&((), Err(Refusal::word(index)))), "{} {index}", entry.name());
+        }
+    }
+
+    #[test]
+    fn lengths_that_no_page_has() {
+        for (entry, length) in READERS
+            .into_iter()
+            .flat_map(|(_, entry)| [257, 300, 384, 508, 509, 511, 513, 768, 1_024].map(|length| (entry, length)))
+        {
+            assert!(met(entry, length, |_| ()).contains(&((), Err(Refusal::PAGE_LENGTH))), "{} {length}", entry.name());
+        }
+        for length in [257, 511, 513] {
+            let met = met(Entry::WriteFirst, length, |call| call.page.iter().all(|&byte| byte == 0));
+            assert!(met.contains(&(true, Err(Refusal::PAGE_LENGTH))), "{length}");
+        }
+    }
+
+    /// "2 compares with the page's own record size", and read first's 3 too.
+    #[test]
+    fn first_records_and_outputs() {
+        let written = met(Entry::WriteFirst, 512, |call| call.other.len());
+        for length in [0, 176, 351, 353] {
+            assert!(written.contains(&(length, Err(Refusal::DATA_LENGTH))), "{length}");
+        }
+        let read = met(Entry::ReadFirst, 512, |call| call.other.len());
+        let short = [0, 176, 351].map(|length| (length, Err(Refusal::OUTPUT_LENGTH)));
+        let enough = [352, 353, 400].map(|length| (length, Ok(0)));
+        assert!(short.iter().chain(&enough).all(|one| read.contains(one)));
+    }
+
+    #[test]
+    fn outputs_of_read_second() {
+        let met = met(Entry::ReadSecond, 512, |call| (call.page[1], call.other.len()));
+        for length in [1, 165, 253] {
+            let output = usize::from(length);
+            assert!(met.contains(&((length, output - 1), Err(Refusal::OUTPUT_LENGTH))), "{length}");
+            assert!(met.contains(&((length, output), Ok(u64::from(length)))), "{length}");
+            assert!(met.iter().any(|((of, longer), answer)| *of == length && *longer > output && answer.is_ok()));
+        }
+    }
+
+    /// Byte 1 at the ends of what it may be on each size, over pages of no record.
+    #[test]
+    fn every_end_of_byte_1() {
+        for (shape, value, fits, most) in [(LARGE, 0, 253, 253), (LARGE, SPARSE_VALUE, 165, 253), (SMALL, 0, 126, 126)]
+        {
+            let cells = &second_page(&page_of(shape, value), &[])[2..];
+            let met = met(Entry::ReadSecond, shape.bytes, |call| (call.page[1], &call.page[2..] == cells));
+            for length in [126, 127, 165, 166, 253, 254, 255] {
+                let wanted = match length {
+                    _ if length <= fits => Ok(u64::from(length)),
+                    _ if length <= most => Err(Refusal::DATA_CELLS),
+                    _ => Err(Refusal::HEADER),
+                };
+                assert!(met.contains(&((length, true), wanted)), "{} {value} {length}", shape.bytes);
+            }
+        }
+    }
+
+    /// A page of 256 bytes before 256 others: whether these are 0, whether bytes 509 to 511 are, and the answer's number.
+    #[test]
+    fn pages_of_the_other_size() {
+        for (entry, state, numbers) in [
+            (Entry::ReadFirst, 1, [0, 6, 7]),
+            (Entry::PageCapacity, 1, [0, 6, 7]),
+            (Entry::PageCapacity, 3, [7, 6, 7]),
+            (Entry::ReadSecond, 7, [7, 6, 9]),
+            (Entry::FillPage, 1, [0, 6, 7]),
+            (Entry::WriteSecond, 3, [7, 6, 7]),
+        ] {
+            let class = |call: &Call| (call.page[0], call.page[256..].to_vec());
+            let met = met(entry, 512, class);
+            let after = [vec![0; 256], vec![0xFF; 256], [vec![0xFF; 253], vec![0; 3]].concat()];
+            for (after, wanted) in after.into_iter().zip(numbers) {
+                let mut found = met.iter().filter(|(page, _)| *page == (state, after.clone()));
+                assert!(found.any(|(_, answer)| number(*answer) == wanted), "{} {state} {wanted}", entry.name());
+            }
+        }
+        let cut = met(Entry::ReadSecond, 256, |call| call.page[1]);
+        assert!(cut.contains(&(20, Ok(20))) && cut.contains(&(200, Err(Refusal::HEADER))));
     }
 }
