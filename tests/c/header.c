@@ -1,9 +1,10 @@
 /*
  * Test of wom.h: its constants and functions, and twelve of its thirteen
  * entries, each on document 01's values and on calls that it refuses by each of
- * its numbers. Every expectation is a literal. The pulses of a page's fill are
- * compared with the cells, counted before and after it, as well. The thirteenth
- * entry, wom_write_file, is tested by file.c.
+ * its numbers, on pages of 256 and of 512 bytes. Every expectation is a
+ * literal. The pulses of a page's fill are compared with the cells, counted
+ * before and after it, as well. The thirteenth entry, wom_write_file, is tested
+ * by file.c.
  *
  *     header               all checks; exit status 0 when none is wrong, else 1
  *     header plant KIND    the same with one wrong expectation of that kind, so
@@ -58,6 +59,7 @@ static const struct {
     CONSTANT(WOM_REFUSED_PAGES_LENGTH, 13),
     CONSTANT(WOM_WORD_CELLS, 46),
     CONSTANT(WOM_PAGE_BYTES, 256),
+    CONSTANT(WOM_LARGE_PAGE_BYTES, 512),
     CONSTANT(WOM_HEADER_BYTES, 3),
     CONSTANT(WOM_WORDS, 44),
     CONSTANT(WOM_FIRST_BYTES, 176),
@@ -65,6 +67,18 @@ static const struct {
     CONSTANT(WOM_SECOND_BYTES_SURE, 82),
     CONSTANT(WOM_INSPECT_BYTES_MAX, 247),
     CONSTANT(WOM_INSPECT_BYTES_SURE, 126),
+    CONSTANT(WOM_WORDS_OF(256), 44),
+    CONSTANT(WOM_WORDS_OF(256 + 256), 88),
+    CONSTANT(WOM_WORDS_OF(511), 0),
+    CONSTANT(WOM_FIRST_BYTES_OF(WOM_PAGE_BYTES), 176),
+    CONSTANT(sizeof(uint8_t[WOM_FIRST_BYTES_OF(WOM_LARGE_PAGE_BYTES)]), 352),
+    CONSTANT(WOM_FIRST_BYTES_OF(0), 0),
+    CONSTANT(WOM_SECOND_BYTES_MAX_OF(256), 126),
+    CONSTANT(WOM_SECOND_BYTES_MAX_OF(512), 253),
+    CONSTANT(WOM_SECOND_BYTES_MAX_OF(1024), 0),
+    CONSTANT(WOM_SECOND_BYTES_SURE_OF(256), 82),
+    CONSTANT(WOM_SECOND_BYTES_SURE_OF(512), 165),
+    CONSTANT(WOM_SECOND_BYTES_SURE_OF(257), 0),
     CONSTANT(WOM_STATE_BLANK, 0),
     CONSTANT(WOM_STATE_FIRST, 1),
     CONSTANT(WOM_STATE_FILLED, 3),
@@ -75,7 +89,7 @@ static const struct {
     CONSTANT(WOM_FILE_BYTES(1), 271),
     CONSTANT(WOM_FILE_BYTES(1 + 1), 530),
     CONSTANT(sizeof(uint8_t[WOM_FILE_BYTES(WOM_FILE_PAGES_MAX)]), 16588),
-    CONSTANT(WOM_VERSION, 50000),
+    CONSTANT(WOM_VERSION, 60000),
 };
 
 static void check_constants(void)
@@ -125,7 +139,7 @@ static void check_texts(void)
         check_text(wom_refusal_name(texts[i].number), texts[i].expected);
     }
     in_case("WOM_VERSION_STRING", WOM_VERSION);
-    check_text(WOM_VERSION_STRING, "5.0.0");
+    check_text(WOM_VERSION_STRING, "6.0.0");
 }
 
 static const struct {
@@ -315,9 +329,9 @@ static void check_refused_words(void)
 /* ---- Pages and records ------------------------------------------------- */
 
 /* Four words take 23 bytes of a page, and four values 16 bytes of a first
- * record. The pages here have the same four words eleven times, but for a few
- * bytes where a record begins or ends: the page's first five, with the header,
- * and its last two. */
+ * record. The pages here have the same four words eleven times, or, of 512
+ * bytes, twenty-two times, but for a few bytes where a record begins or ends:
+ * the page's first five, with the header, and the last two of its words. */
 struct page {
     uint8_t start[5];
     uint8_t words[23];
@@ -457,6 +471,24 @@ static const struct page least_inspect_ones = {
     {0x09, 126, 0, 0xff, 0xff}, {TIMES_23(0xff)}, {0xff, 0x49},
 };
 
+/* Over pages of 512 bytes, each record taking every data cell: 253 bytes of ones
+ * over 352 zero bytes, 165 over 88 times 3889371024, 242 over 88 times 3. */
+static const struct page zeros_ones_253 = {
+    {0x07, 253, 0, 0xff, 0xff}, {TIMES_23(0xff)}, {0xff, 0xff},
+};
+static const struct page least_ones_165 = {
+    {0x07, 165, 0, 0xdb, 0x6d},
+    {0xdb, 0x6d, 0xb6, 0xdb, 0x6d, 0xb7, 0x6d, 0xb6, 0xdb, 0x6d, 0xb6, 0xdd,
+     0xb6, 0xdb, 0x6d, 0xb6, 0xdb, 0x76, 0xdb, 0x6d, 0xb6, 0xdb, 0x6d},
+    {0xdb, 0x6d},
+};
+static const struct page threes_ones_242 = {
+    {0x07, 242, 0, 0xff, 0xff},
+    {0xff, 0xff, 0xff, 0xff, 0xff, 0xdb, 0xff, 0xff, 0xff, 0xff, 0xff, 0x6f,
+     0xff, 0xff, 0xff, 0xff, 0xfd, 0xbf, 0xff, 0xff, 0xff, 0xff, 0xf6},
+    {0xff, 0xf6},
+};
+
 /* Sixteen bytes, which repeat themselves. */
 static const uint8_t zeros[16] = {0};
 static const uint8_t one[16] = {TIMES_16(0x01)};
@@ -473,15 +505,18 @@ static const uint8_t mixed[16] = {
 
 #define ROOM 4112 /* bytes for a page or another buffer, and bytes after it */
 
-static void lay_page(uint8_t bytes[ROOM], const struct page *page)
+/* On a page of 256 or of 512 bytes; after the words of the latter are three
+ * bytes of 0. */
+static void lay_page(uint8_t bytes[ROOM], const struct page *page, size_t size)
 {
-    int i;
+    size_t times = size == 512 ? 22 : 11, i;
 
     memset(bytes, 0x55, ROOM);
-    for (i = 0; i < 11; i++)
+    memset(bytes, 0, size);
+    for (i = 0; i < times; i++)
         memcpy(bytes + 3 + 23 * i, page->words, 23);
     memcpy(bytes, page->start, 5);
-    memcpy(bytes + 254, page->end, 2);
+    memcpy(bytes + 1 + 23 * times, page->end, 2);
 }
 
 static void lay_record(uint8_t bytes[ROOM], const uint8_t sixteen[16],
@@ -556,7 +591,7 @@ static uint64_t cleared_cells(const uint8_t *before, const uint8_t *after)
     uint64_t count = 0;
     int i;
 
-    for (i = 0; i < 8 * 256; i++)
+    for (i = 0; i < 8 * ROOM; i++)
         count += (before[i / 8] & ~after[i / 8]) >> i % 8 & 1;
     return count;
 }
@@ -673,15 +708,56 @@ static const struct accepted {
      ones, 126},
 };
 
-static void check_accepted_call(const struct accepted *row)
+/* The same with pages of 512 bytes. */
+static const struct accepted accepted_512[] = {
+    {WRITE_FIRST, &blank, zeros, 352, 0, &zeros_first, zeros, 0},
+    {WRITE_FIRST, &blank, least, 352, 0, &least_first, zeros, 0},
+    {WRITE_FIRST, &blank, mixed, 352, 0, &mixed_first, zeros, 0},
+
+    {READ_FIRST, &zeros_first, nines, 352, 0, &zeros_first, zeros, 352},
+    {READ_FIRST, &least_first, nines, 353, 0, &least_first, least, 352},
+    {READ_FIRST, &mixed_first, nines, 600, 0, &mixed_first, mixed, 352},
+
+    {PAGE_CAPACITY, &zeros_first, nines, 0, 2024, &zeros_first, zeros, 0},
+    {PAGE_CAPACITY, &least_first, nines, 0, 1320, &least_first, zeros, 0},
+    {PAGE_CAPACITY, &mixed_first, nines, 0, 1782, &mixed_first, zeros, 0},
+    {PAGE_CAPACITY, &zeros_filled, nines, 0, 2024, &zeros_filled, zeros, 0},
+    {PAGE_CAPACITY, &least_filled, nines, 0, 1320, &least_filled, zeros, 0},
+    {PAGE_CAPACITY, &mixed_filled, nines, 0, 1782, &mixed_filled, zeros, 0},
+    {PAGE_CAPACITY, &threes_filled, nines, 0, 1936, &threes_filled, zeros, 0},
+
+    {FILL_PAGE, &zeros_first, nines, 0, 2024, &zeros_filled, zeros, 0},
+    {FILL_PAGE, &least_first, nines, 0, 0, &least_filled, zeros, 0},
+    {FILL_PAGE, &mixed_first, nines, 0, 1342, &mixed_filled, zeros, 0},
+    {FILL_PAGE, &threes_first, nines, 0, 1848, &threes_filled, zeros, 0},
+
+    {WRITE_SECOND, &zeros_filled, zeros, 0, 0, &zeros_none, zeros, 0},
+    {WRITE_SECOND, &zeros_filled, zeros, 1, 0, &zeros_zero, zeros, 0},
+    {WRITE_SECOND, &zeros_filled, byte, 1, 0, &zeros_byte, zeros, 0},
+    {WRITE_SECOND, &zeros_filled, ones, 253, 0, &zeros_ones_253, zeros, 0},
+    {WRITE_SECOND, &least_filled, ones, 165, 0, &least_ones_165, zeros, 0},
+    {WRITE_SECOND, &mixed_filled, zeros, 1, 0, &mixed_zero, zeros, 0},
+    {WRITE_SECOND, &threes_filled, ones, 242, 0, &threes_ones_242, zeros, 0},
+
+    {READ_SECOND, &zeros_none, nines, 0, 0, &zeros_none, zeros, 0},
+    {READ_SECOND, &zeros_zero, nines, 1, 1, &zeros_zero, zeros, 1},
+    {READ_SECOND, &zeros_byte, nines, 2, 1, &zeros_byte, byte, 1},
+    {READ_SECOND, &zeros_ones_253, nines, 253, 253, &zeros_ones_253, ones, 253},
+    {READ_SECOND, &least_ones_165, nines, 165, 165, &least_ones_165, ones, 165},
+    {READ_SECOND, &mixed_zero, nines, 2, 1, &mixed_zero, zeros, 1},
+    {READ_SECOND, &threes_ones_242, nines, 600, 242, &threes_ones_242, ones,
+     242},
+};
+
+static void check_accepted_call(const struct accepted *row, size_t size)
 {
     struct trial trial = {.entry = row->entry,
-                          .page_length = 256,
+                          .page_length = size,
                           .length = row->length,
                           .answer = row->result};
 
-    lay_page(trial.page, row->page);
-    lay_page(trial.page_left, row->page_left);
+    lay_page(trial.page, row->page, size);
+    lay_page(trial.page_left, row->page_left, size);
     lay_record(trial.other, row->other, ROOM);
     lay_record(trial.other_left, row->other, ROOM);
     lay_record(trial.other_left, row->put, row->put_length);
@@ -694,12 +770,17 @@ static void check_accepted(void)
 
     for (i = 0; i < COUNT(accepted); i++) {
         in_case(names[accepted[i].entry], i);
-        check_accepted_call(&accepted[i]);
+        check_accepted_call(&accepted[i], 256);
+    }
+    for (i = 0; i < COUNT(accepted_512); i++) {
+        in_case(names[accepted_512[i].entry], 1000 + i);
+        check_accepted_call(&accepted_512[i], 512);
     }
 }
 
 /* The page with its length, and what one of its bytes is put to before the
- * call; the other buffer's length; the refusal's number and index. */
+ * call; the other buffer's length; the refusal's number and index. After a page
+ * of 256 bytes come bytes that are not 0. */
 static const struct refused {
     enum entry entry;
     const struct page *page;
@@ -723,6 +804,8 @@ static const struct refused {
     {READ_FIRST, &zeros_first, 0, 0, 0x01, 176, 1, 0},
     {READ_FIRST, &zeros_first, 0, 0, 0x01, 0, 1, 0},
     {READ_FIRST, &zeros_first, 255, 0, 0x01, 176, 1, 0},
+    {READ_FIRST, &zeros_first, 257, 0, 0x01, 176, 1, 0},
+    {READ_FIRST, &zeros_first, 512, 0, 0x01, 352, 6, 0}, /* bytes 509 to 511 */
     {READ_FIRST, &zeros_first, 256, 0, 0x07, 176, 5, 0},
     {READ_FIRST, &zeros_filled, 256, 0, 0x03, 176, 5, 0},
     {READ_FIRST, &zeros_inspect_none, 256, 0, 0x09, 176, 5, 0},
@@ -737,6 +820,7 @@ static const struct refused {
 
     {PAGE_CAPACITY, &zeros_first, 0, 0, 0x01, 0, 1, 0},
     {PAGE_CAPACITY, &zeros_first, 257, 0, 0x01, 0, 1, 0},
+    {PAGE_CAPACITY, &zeros_first, 512, 0, 0x01, 0, 6, 0},
     {PAGE_CAPACITY, &zeros_first, 256, 0, 0x00, 0, 5, 0},
     {PAGE_CAPACITY, &zeros_first, 256, 0, 0x02, 0, 5, 0},
     {PAGE_CAPACITY, &zeros_none, 256, 0, 0x07, 0, 5, 0},
@@ -878,14 +962,106 @@ static const struct refused {
     {READ_INSPECT, &zeros_inspect_zeros, 256, 0, 0x09, 246, 3, 0},
 };
 
-static void check_refused_call(const struct refused *row)
+/* The same with pages of 512 bytes. */
+static const struct refused refused_512[] = {
+    {WRITE_FIRST, &blank, 511, 0, 0x00, 352, 1, 0},
+    {WRITE_FIRST, &blank, 513, 0, 0x00, 352, 1, 0},
+    {WRITE_FIRST, &blank, 384, 0, 0x00, 264, 1, 0},
+    {WRITE_FIRST, &blank, 1024, 0, 0x00, 704, 1, 0},
+    {WRITE_FIRST, &blank, 512, 0, 0x00, 176, 2, 0},
+    {WRITE_FIRST, &blank, 512, 0, 0x00, 351, 2, 0},
+    {WRITE_FIRST, &blank, 512, 0, 0x00, 353, 2, 0},
+    {WRITE_FIRST, &blank, 256, 0, 0x00, 352, 2, 0},
+    {WRITE_FIRST, &blank, 512, 0, 0x80, 352, 4, 0},
+    {WRITE_FIRST, &blank, 512, 256, 0x01, 352, 4, 0},
+    {WRITE_FIRST, &blank, 512, 508, 0x01, 352, 4, 0},
+    {WRITE_FIRST, &blank, 512, 509, 0x01, 352, 4, 0},
+    {WRITE_FIRST, &blank, 512, 510, 0x10, 352, 4, 0},
+    {WRITE_FIRST, &blank, 512, 511, 0x80, 352, 4, 0},
+
+    {READ_FIRST, &zeros_first, 511, 0, 0x01, 352, 1, 0},
+    {READ_FIRST, &zeros_first, 513, 0, 0x01, 352, 1, 0},
+    {READ_FIRST, &zeros_first, 512, 0, 0x03, 352, 5, 0},
+    {READ_FIRST, &zeros_first, 512, 1, 0x01, 352, 6, 0},
+    {READ_FIRST, &zeros_first, 512, 2, 0x80, 352, 6, 0},
+    {READ_FIRST, &zeros_first, 512, 509, 0x80, 352, 6, 0},
+    {READ_FIRST, &zeros_first, 512, 510, 0x01, 352, 6, 0},
+    {READ_FIRST, &zeros_first, 512, 511, 0x01, 0, 6, 0},
+    {READ_FIRST, &zeros_none, 512, 511, 0x01, 352, 5, 0},
+    {READ_FIRST, &zeros_first, 512, 3, 0xc0, 352, 7, 0},
+    {READ_FIRST, &zeros_first, 512, 255, 0x03, 352, 7, 43},
+    {READ_FIRST, &zeros_first, 512, 256, 0xc0, 352, 7, 44},
+    {READ_FIRST, &zeros_first, 512, 508, 0x03, 352, 7, 87},
+    {READ_FIRST, &zeros_first, 512, 0, 0x01, 351, 3, 0},
+    {READ_FIRST, &zeros_first, 512, 0, 0x01, 176, 3, 0},
+
+    {PAGE_CAPACITY, &zeros_first, 511, 0, 0x01, 0, 1, 0},
+    {PAGE_CAPACITY, &zeros_first, 512, 0, 0x07, 0, 5, 0},
+    {PAGE_CAPACITY, &zeros_first, 512, 1, 0x80, 0, 6, 0},
+    {PAGE_CAPACITY, &zeros_first, 512, 509, 0x01, 0, 6, 0},
+    {PAGE_CAPACITY, &least_first, 512, 510, 0x08, 0, 6, 0},
+    {PAGE_CAPACITY, &mixed_first, 512, 511, 0x80, 0, 6, 0},
+    {PAGE_CAPACITY, &zeros_first, 512, 508, 0x03, 0, 7, 87},
+    {PAGE_CAPACITY, &zeros_filled, 513, 0, 0x03, 0, 1, 0},
+    {PAGE_CAPACITY, &zeros_filled, 512, 2, 0x01, 0, 6, 0},
+    {PAGE_CAPACITY, &zeros_filled, 512, 509, 0xaa, 0, 6, 0},
+    {PAGE_CAPACITY, &least_filled, 512, 510, 0x01, 0, 6, 0},
+    {PAGE_CAPACITY, &mixed_filled, 512, 511, 0x01, 0, 6, 0},
+    {PAGE_CAPACITY, &zeros_first, 512, 0, 0x03, 0, 7, 0},
+    {PAGE_CAPACITY, &zeros_filled, 512, 256, 0xba, 0, 7, 44},
+    {PAGE_CAPACITY, &zeros_filled, 512, 508, 0xab, 0, 7, 87},
+
+    {FILL_PAGE, &zeros_first, 511, 0, 0x01, 0, 1, 0},
+    {FILL_PAGE, &zeros_first, 512, 0, 0x03, 0, 5, 0},
+    {FILL_PAGE, &zeros_first, 512, 2, 0x80, 0, 6, 0},
+    {FILL_PAGE, &zeros_first, 512, 509, 0x01, 0, 6, 0},
+    {FILL_PAGE, &zeros_first, 512, 510, 0x01, 0, 6, 0},
+    {FILL_PAGE, &zeros_first, 512, 511, 0x01, 0, 6, 0},
+    {FILL_PAGE, &zeros_first, 512, 256, 0xc0, 0, 7, 44},
+    {FILL_PAGE, &mixed_first, 512, 508, 0x4b, 0, 7, 87},
+
+    {WRITE_SECOND, &zeros_filled, 513, 0, 0x03, 1, 1, 0},
+    {WRITE_SECOND, &zeros_filled, 512, 0, 0x01, 1, 5, 0},
+    {WRITE_SECOND, &zeros_filled, 512, 1, 0x01, 1, 6, 0},
+    {WRITE_SECOND, &zeros_filled, 512, 509, 0x01, 1, 6, 0},
+    {WRITE_SECOND, &zeros_filled, 512, 510, 0x80, 254, 6, 0},
+    {WRITE_SECOND, &zeros_filled, 512, 511, 0x01, 0, 6, 0},
+    {WRITE_SECOND, &zeros_filled, 512, 508, 0xa8, 0, 7, 87},
+    {WRITE_SECOND, &zeros_filled, 512, 0, 0x03, 254, 8, 2024},
+    {WRITE_SECOND, &least_filled, 512, 0, 0x03, 166, 8, 1320},
+    {WRITE_SECOND, &mixed_filled, 512, 0, 0x03, 223, 8, 1782},
+    {WRITE_SECOND, &least_filled, 512, 0, 0x03, 4096, 8, 1320},
+
+    {READ_SECOND, &zeros_none, 511, 0, 0x07, 253, 1, 0},
+    {READ_SECOND, &zeros_none, 512, 0, 0x03, 253, 5, 0},
+    {READ_SECOND, &zeros_none, 512, 1, 254, 254, 6, 0},
+    {READ_SECOND, &zeros_none, 512, 2, 0x01, 253, 6, 0},
+    {READ_SECOND, &zeros_none, 512, 509, 0x01, 253, 6, 0},
+    {READ_SECOND, &zeros_ones_253, 512, 510, 0x01, 253, 6, 0},
+    {READ_SECOND, &least_ones_165, 512, 511, 0x80, 0, 6, 0},
+    {READ_SECOND, &zeros_none, 512, 3, 0x2a, 253, 7, 0},
+    {READ_SECOND, &zeros_none, 512, 508, 0xa8, 253, 7, 87},
+    {READ_SECOND, &least_ones_165, 512, 1, 166, 253, 9, 0}, /* 1320 bits */
+    {READ_SECOND, &least_ones_165, 512, 1, 253, 253, 9, 0},
+    {READ_SECOND, &zeros_ones_253, 512, 1, 252, 253, 9, 0}, /* a spare cell */
+    {READ_SECOND, &zeros_none, 512, 508, 0xab, 253, 9, 0},
+    {READ_SECOND, &zeros_ones_253, 512, 0, 0x07, 252, 3, 0},
+    {READ_SECOND, &zeros_ones_253, 512, 0, 0x07, 126, 3, 0},
+
+    {WRITE_INSPECT, &zeros_first, 512, 0, 0x01, 1, 1, 0},
+    {WRITE_INSPECT, &zeros_first, 512, 0, 0x03, 0, 1, 0},
+    {READ_INSPECT, &zeros_inspect_none, 512, 0, 0x09, 253, 1, 0},
+    {READ_INSPECT, &zeros_inspect_ones, 512, 1, 126, 126, 1, 0},
+};
+
+static void check_refused_call(const struct refused *row, size_t size)
 {
     struct trial trial = {.entry = row->entry,
                           .page_length = row->page_length,
                           .length = row->length,
                           .answer = REFUSED(row->number, row->index)};
 
-    lay_page(trial.page, row->page);
+    lay_page(trial.page, row->page, size);
     trial.page[row->byte] = row->value;
     memcpy(trial.page_left, trial.page, ROOM);
     lay_record(trial.other, nines, ROOM);
@@ -899,7 +1075,11 @@ static void check_refused(void)
 
     for (i = 0; i < COUNT(refused); i++) {
         in_case(names[refused[i].entry], i);
-        check_refused_call(&refused[i]);
+        check_refused_call(&refused[i], 256);
+    }
+    for (i = 0; i < COUNT(refused_512); i++) {
+        in_case(names[refused_512[i].entry], 1000 + i);
+        check_refused_call(&refused_512[i], 512);
     }
 }
 
@@ -1035,27 +1215,28 @@ static void check_walks(void)
 
 /* ---- Pulses of a page's fill ------------------------------------------- */
 
-/* The value of one word and that of the 43 others, and the pulses of the page's
- * fill, whichever word the one is. */
+/* The value of one word and that of the 43 others, or the 87 others, and the
+ * pulses of the page's fill, whichever word the one is. */
 static const struct page_fill {
     uint32_t one;
     uint32_t others;
     uint64_t pulses;
+    uint64_t pulses_512;
 } page_fills[] = {
-    {0, 0, 1012},
-    {77, 0, 1009},
-    {3889371024u, 0, 989},
-    {3889371024u, 3889371024u, 0},
-    {0, 3889371024u, 23},
-    {243, 3889371024u, 19},
-    {1, 4294967295u, 366},
+    {0, 0, 1012, 2024},
+    {77, 0, 1009, 2021},
+    {3889371024u, 0, 989, 2001},
+    {3889371024u, 3889371024u, 0, 0},
+    {0, 3889371024u, 23, 23},
+    {243, 3889371024u, 19, 19},
+    {1, 4294967295u, 366, 718},
 };
 
-static void lay_values(uint8_t data[176], const struct page_fill *row, int word)
+static void lay_values(uint8_t data[352], const struct page_fill *row, int word)
 {
     int i;
 
-    for (i = 0; i < 176; i++) {
+    for (i = 0; i < 352; i++) {
         uint32_t value = i / 4 == word ? row->one : row->others;
 
         data[i] = (uint8_t)(value >> (24 - 8 * (i % 4)));
@@ -1073,28 +1254,32 @@ static uint64_t set_cells(const uint8_t *bytes, size_t length)
 }
 
 /* The state's one cell is in byte 0, and not among the pulses. */
-static void check_pulses(const uint8_t data[176], uint64_t pulses)
+static void check_pulses(size_t size, const uint8_t data[352], uint64_t pulses)
 {
-    uint8_t before[256] = {0}, after[256];
+    uint8_t before[512] = {0}, after[512];
 
-    check_number("answer", wom_write_first(before, 256, data, 176), 0);
-    memcpy(after, before, 256);
-    check_number("pulses", wom_fill_page(after, 256), pulses);
-    check_number("pulses", set_cells(after + 3, 253),
-                 set_cells(before + 3, 253) + pulses);
-    check_number("pulses", set_cells(after, 256),
-                 set_cells(before, 256) + pulses + 1);
+    check_number("answer",
+                 wom_write_first(before, size, data, size == 512 ? 352 : 176),
+                 0);
+    memcpy(after, before, 512);
+    check_number("pulses", wom_fill_page(after, size), pulses);
+    check_number("pulses", set_cells(after + 3, 509),
+                 set_cells(before + 3, 509) + pulses);
+    check_number("pulses", set_cells(after, 512),
+                 set_cells(before, 512) + pulses + 1);
 }
 
 static void check_each_word(const struct page_fill *row)
 {
-    uint8_t data[176];
+    uint8_t data[352];
     int word;
 
-    for (word = 0; word < 44; word++) {
+    for (word = 0; word < 88; word++) {
         lay_values(data, row, word);
         in_case("wom_fill_page, one word", (uint64_t)word);
-        check_pulses(data, row->pulses);
+        if (word < 44)
+            check_pulses(256, data, row->pulses);
+        check_pulses(512, data, row->pulses_512);
     }
 }
 

@@ -154,8 +154,9 @@ pub fn read_first(page: &[u8], output: &mut [u8]) -> Answer {
 /// "Page capacity serves both states; on a state 03 page it refuses 6 and 7 as writing does, and 5 is for any other
 /// state."
 pub fn page_capacity(page: &[u8]) -> Answer {
-    let capacity = match page.first() {
-        Some(&FILLED) => data_cells_of(&filled_words(page)?).len(),
+    shape_of(page)?;
+    let capacity = match page[0] {
+        FILLED => data_cells_of(&filled_words(page)?).len(),
         _ => capacity_of(&first_round_words(page)?),
     };
     Ok(capacity as u64)

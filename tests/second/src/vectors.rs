@@ -628,7 +628,7 @@ mod tests {
         let of_pages = || calls.iter().filter(|call| call.entry.takes_page()).map(|call| &call.page);
         let different =
             |shape: Shape| of_pages().filter(|page| page.len() == shape.bytes).collect::<HashSet<_>>().len();
-        assert_eq!(Shape::BOTH.map(different), [913, 0]);
+        assert_eq!(Shape::BOTH.map(different), [921, 444]);
     }
 
     /// Before the calls of write file come those of all other entries but the Inspect code's; after them, those about that

@@ -69,10 +69,11 @@ walk-words-requires c κs =
     let copy = c .before .before in
     let p = passed (copy .before .before .before) in
     let e = copy-is copy in
-    rw (words-44 copy) (
-      omega (arith, ap length e, p .sized),
-      ap (λ (q : List ℕ). lowest legal (pageWords q 44)) e ∙ all-words 44 legal _ (p .words-pass),
-      omega arith,
+    let n = words-44 copy in (
+      omega (arith, ap length e, p .sized, n),
+      ap (λ (k : ℕ). lowest legal (pageWords (copy .copy-page .last .0) k)) n
+          ∙ ap (λ (q : List ℕ). lowest legal (pageWords q 44)) e ∙ all-words 44 legal _ (p .words-pass) ∙ sym n,
+      omega (arith, n),
     )
 
 walked : (c : tie.After-walk-words) →

@@ -103,7 +103,7 @@ gather-requires c κs =
 cast-t15 : tie.Need-cast-t15
 cast-t15 c =
     let small = c .before in
-    omega (arith, small .if4 .taken, shaped-at (small .before .before .before .before .before .before) .few)
+    omega (arith, small .if4 .taken, shaped-at (small .before .before .before .before .before .before))
 
 returns-4 : tie.Need-returns-4
 returns-4 c =

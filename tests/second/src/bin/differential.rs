@@ -286,11 +286,13 @@ impl Run {
         }
     }
 
-    /// The page of an accepted call as it is told; planted, it reaches one byte into the untouchable memory.
+    /// The page of an accepted call as it is told; planted, it reaches one byte into the untouchable memory. A page without
+    /// a byte would reach nowhere.
     fn planted_page(&mut self, page: Span, place: Place) -> Span {
-        if self.takes_plant(Kind::After, place == Place::Guarded(Side::Before)) {
+        let on = |side: Side| place == Place::Guarded(side) && page.length > 0;
+        if self.takes_plant(Kind::After, on(Side::Before)) {
             page.shifted(1)
-        } else if self.takes_plant(Kind::Before, place == Place::Guarded(Side::After)) {
+        } else if self.takes_plant(Kind::Before, on(Side::After)) {
             page.shifted(-1)
         } else {
             page

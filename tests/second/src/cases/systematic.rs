@@ -56,7 +56,6 @@ pub fn calls() -> Vec<Call> {
     let [mut small, mut large] = Shape::BOTH.map(Walk::new);
     small.values();
     small.words();
-    Entry::ALL.into_iter().filter(|entry| !entry.takes_page()).for_each(|entry| small.refusals_of(entry));
     for walk in [&mut small, &mut large] {
         walk.pages_of_every_kind();
         walk.pages_of_every_length();
@@ -65,6 +64,7 @@ pub fn calls() -> Vec<Call> {
     }
     small.files_of_every_kind();
     small.records_by_inspect();
+    Entry::ALL.into_iter().filter(|entry| !entry.takes_page()).for_each(|entry| small.refusals_of(entry));
     small.calls.extend(large.calls);
     small.calls
 }
