@@ -2,7 +2,8 @@
  * The page operations on 100 pseudo-random pages, with the longest record that
  * fits, and each on the page that takes it most instructions. A random record
  * of the Inspect code is one tenth ones. How it is started: passes.h. Before
- * each call the page is copied afresh, for `nothing` as well.
+ * each call the page is copied afresh, for `nothing` as well. The pages are of
+ * 256 bytes, or, with the Inspect code left out, of PAGE_BYTES.
  *
  * Kinds: answer    an answer
  *        page      the page afterwards
@@ -17,6 +18,14 @@
 #include "plain.h"
 #include "wom.h"
 
+#ifndef PAGE_BYTES
+#define PAGE_BYTES WOM_PAGE_BYTES
+#endif
+#define INSPECT (PAGE_BYTES == WOM_PAGE_BYTES)
+#define FIRST_BYTES WOM_FIRST_BYTES_OF(PAGE_BYTES)
+#define RECORD_BYTES WOM_SECOND_BYTES_MAX_OF(PAGE_BYTES)
+#define LAST_BYTE (PAGE_BYTES == 512 ? 508 : 255) /* of the words */
+
 #define COUNT 100
 
 /* The worst pages come after the random ones. Write first and read first have a
@@ -25,27 +34,31 @@
  * take the same on every page. */
 enum { MOST_SET = COUNT, MOST_ROOM, SHORT_RECORD, ACCEPTED };
 
-/* All 44 words have the value. The record of the Inspect code is all ones: a
- * pair each. */
+/* All words have the value. The record of the Inspect code is all ones: a pair
+ * each. */
 static const struct {
     uint32_t value;
     size_t longest; /* the record's bytes, or fewer where these do not fit */
 } worst[ACCEPTED - COUNT] = {
-    {2971215072u, WOM_SECOND_BYTES_MAX}, /* every odd cell is set */
-    {0, WOM_SECOND_BYTES_MAX},           /* 1012 data cells */
-    {0, 7}, /* of all lengths the longest to copy and to test the spare cells */
+    {2971215072u, RECORD_BYTES}, /* every odd cell is set */
+    {0, RECORD_BYTES},           /* 23 data cells a word */
+    {0, 10}, /* of all lengths the longest to copy and to test the spare cells */
 };
 
+#if INSPECT
 #define REFUSED 36
+#else
+#define REFUSED 31
+#endif
 #define PAGES (ACCEPTED + REFUSED)
 
-typedef uint8_t page_bytes[WOM_PAGE_BYTES];
+typedef uint8_t page_bytes[PAGE_BYTES];
 
 /* For each page: the first record, the second record and its length, the
  * Inspect code's, with room for one that does not fit, and its length, and the
  * page in its five states. The refused ones are compared only. */
-static uint8_t data[PAGES][WOM_FIRST_BYTES];
-static uint8_t record[PAGES][WOM_SECOND_BYTES_MAX];
+static uint8_t data[PAGES][FIRST_BYTES];
+static uint8_t record[PAGES][RECORD_BYTES];
 static size_t record_length[PAGES];
 static uint8_t sparse[PAGES][WOM_INSPECT_BYTES_MAX + 1];
 static size_t sparse_length[PAGES];
@@ -54,7 +67,8 @@ static page_bytes inspect[PAGES];
 
 /* What a call works on. */
 static page_bytes page;
-static uint8_t out[WOM_INSPECT_BYTES_MAX];
+static uint8_t out[WOM_INSPECT_BYTES_MAX > FIRST_BYTES ? WOM_INSPECT_BYTES_MAX
+                                                       : FIRST_BYTES];
 
 #define WITH_DATA(f)                                                  \
     static uint64_t call_##f(int i)                                   \
@@ -100,10 +114,12 @@ WITH_RECORD(wom_write_second, filled, record)
 WITH_RECORD(plain_write_second, filled, record)
 WITH_OUTPUT(wom_read_second, second)
 WITH_OUTPUT(plain_read_second, second)
+#if INSPECT
 WITH_RECORD(wom_write_inspect, first, sparse)
 WITH_RECORD(plain_write_inspect, first, sparse)
 WITH_OUTPUT(wom_read_inspect, inspect)
 WITH_OUTPUT(plain_read_inspect, inspect)
+#endif
 
 /* Page capacity stands here twice: of a first-round page, and under the name
  * filled_capacity of a filled page. */
@@ -123,10 +139,12 @@ static const struct operation operations[] = {
     {"plain_write_second", call_plain_write_second, MOST_ROOM},
     {"wom_read_second", call_wom_read_second, SHORT_RECORD},
     {"plain_read_second", call_plain_read_second, SHORT_RECORD},
+#if INSPECT
     {"wom_write_inspect", call_wom_write_inspect, MOST_ROOM},
     {"plain_write_inspect", call_plain_write_inspect, MOST_ROOM},
     {"wom_read_inspect", call_wom_read_inspect, MOST_ROOM},
     {"plain_read_inspect", call_plain_read_inspect, MOST_ROOM},
+#endif
 };
 
 #define OPERATIONS ((int)(sizeof operations / sizeof operations[0]))
@@ -154,30 +172,31 @@ static const struct refused {
     unsigned number;
 } refused[REFUSED] = {
     {WRITE_FIRST, 0, 0x01, 0, 4},
-    {WRITE_FIRST, 255, 0x80, 0, 4},
+    {WRITE_FIRST, PAGE_BYTES - 1, 0x80, 0, 4},
     {READ_FIRST, 0, 0x07, 0, 5},
     {READ_FIRST, 1, 0x01, 0, 6},
-    {READ_FIRST, 255, 0xff, 0, 7},
+    {READ_FIRST, LAST_BYTE, 0xff, 0, 7},
     {PAGE_CAPACITY, 0, 0x00, 0, 5},
     {PAGE_CAPACITY, 2, 0x01, 0, 6},
     {PAGE_CAPACITY, 3, 0xff, 0, 7},
     {FILLED_CAPACITY, 0, 0x07, 0, 5},
     {FILLED_CAPACITY, 1, 0x01, 0, 6},
     {FILLED_CAPACITY, 3, 0x00, 0, 7},   /* not well formed */
-    {FILLED_CAPACITY, 255, 0xff, 0, 7}, /* a data cell is set */
+    {FILLED_CAPACITY, LAST_BYTE, 0xff, 0, 7}, /* a data cell is set */
     {FILL_PAGE, 0, 0x03, 0, 5},
     {FILL_PAGE, 1, 0x80, 0, 6},
     {FILL_PAGE, 128, 0xff, 0, 7},
     {WRITE_SECOND, 0, 0x01, 0, 5},
     {WRITE_SECOND, 2, 0x80, 0, 6},
-    {WRITE_SECOND, 255, 0x00, 0, 7}, /* not well formed */
+    {WRITE_SECOND, LAST_BYTE, 0x00, 0, 7}, /* not well formed */
     {WRITE_SECOND, 128, 0xff, 0, 7}, /* a data cell is set */
     {WRITE_SECOND, 0, 0x03, 1, 8},
     {READ_SECOND, 0, 0x01, 0, 5},
-    {READ_SECOND, 1, 127, 0, 6},
+    {READ_SECOND, 1, RECORD_BYTES + 1, 0, 6},
     {READ_SECOND, 3, 0x00, 0, 7},
     {READ_SECOND, 1, 0, 0, 9},   /* spare data cells are set */
-    {READ_SECOND, 1, 126, 0, 9}, /* too few data cells */
+    {READ_SECOND, 1, RECORD_BYTES, 0, 9}, /* too few data cells */
+#if INSPECT
     {WRITE_INSPECT, 0, 0x03, 0, 5},
     {WRITE_INSPECT, 1, 0x01, 0, 6},
     {WRITE_INSPECT, 2, 0x80, 0, 6},
@@ -189,6 +208,14 @@ static const struct refused {
     {READ_INSPECT, 3, 0xaa, 0, 7}, /* the sum */
     {READ_INSPECT, 1, 0, 0, 7},    /* a pair 11 that is not read */
     {READ_INSPECT, 1, 247, 0, 9},
+#else
+    {READ_FIRST, 509, 0x80, 0, 6},
+    {PAGE_CAPACITY, 510, 0x01, 0, 6},
+    {FILLED_CAPACITY, 511, 0x01, 0, 6},
+    {FILL_PAGE, 509, 0xff, 0, 6},
+    {WRITE_SECOND, 510, 0x10, 0, 6},
+    {READ_SECOND, 511, 0x80, 0, 6},
+#endif
 };
 
 static void fill_at_random(uint8_t *bytes, size_t length, uint64_t *state)
@@ -216,7 +243,7 @@ static void put_values(uint8_t *bytes, uint32_t value)
 {
     int i;
 
-    for (i = 0; i < WOM_FIRST_BYTES; i++)
+    for (i = 0; i < FIRST_BYTES; i++)
         bytes[i] = (uint8_t)(value >> (24 - 8 * (i % 4)));
 }
 
@@ -244,6 +271,8 @@ static void make_inspect(int i)
 {
     uint64_t fits;
 
+    if (!INSPECT)
+        return;
     memcpy(inspect[i], first[i], sizeof inspect[i]);
     fits = plain_write_inspect(inspect[i], sizeof inspect[i], sparse[i],
                                sizeof sparse[i]);
@@ -260,7 +289,7 @@ static void make_pages(void)
 
     for (i = 0; i < COUNT; i++) {
         fill_at_random(data[i], sizeof data[i], &state);
-        make_page(i, WOM_SECOND_BYTES_MAX, &state);
+        make_page(i, RECORD_BYTES, &state);
         fill_sparsely(sparse[i], sizeof sparse[i], &sparse_state);
         make_inspect(i);
     }
