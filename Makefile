@@ -9,13 +9,15 @@ DIST = wom-$(VERSION)
 help: ## this list
 	@awk -F ':.*## ' '/^[a-z]+:.*## / { printf "make %-13s %s\n", $$1, $$2 }' Makefile
 
-# A page's life in a logger, then the listing and the gain sheet of the pages that it leaves, and the file that carries them away.
+# A page's life in a logger, then the listing and the gain sheet of the pages that it leaves, a page's life on chips of both page sizes, and
+# the file that carries the logger's pages away.
 demo: archive ## proves the library, and shows a page's life on a model of the part: about two minutes
 	@echo 'proving and compiling the programs listing and gain (target/listing.log, target/gain.log)'
 	@rt check listing >target/listing.log 2>&1 || { cat target/listing.log; exit 1; }
 	@rt check gain >target/gain.log 2>&1 || { cat target/gain.log; exit 1; }
 	@mkdir -p target/demo
 	$(CC99) -o target/demo/logger examples/logger.c target/staticlib/libwom.a
+	$(CC99) -o target/demo/two_chips examples/two_chips.c target/staticlib/libwom.a
 	$(CC99) -o target/demo/carry examples/carry.c target/staticlib/libwom.a
 	@echo
 	@target/demo/logger target/demo/pages.bin
@@ -23,6 +25,8 @@ demo: archive ## proves the library, and shows a page's life on a model of the p
 	@target/bin/listing <target/demo/pages.bin
 	@printf '\nThe gain sheet of the same pages (target/bin/gain):\n'
 	@target/bin/gain <target/demo/pages.bin
+	@echo
+	@target/demo/two_chips
 	@echo
 	@target/demo/carry 0x12345678 target/demo/pages.bin target/demo/lift.bin
 
