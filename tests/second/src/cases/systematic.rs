@@ -184,16 +184,22 @@ impl Walk {
         }
     }
 
-    /// Each of bytes 509 to 511 not 0, together with another byte of the header out of its range, and with each word not
-    /// sound.
+    /// Each of bytes 509 to 511 not 0, together with another byte of the header, and with each word not sound; and all of
+    /// them.
     fn tails(&mut self) {
         let tail = self.shape.tail();
         for (base, place) in self.bases().iter().flat_map(|base| tail.clone().map(move |place| (base, place))) {
-            let page = with_byte(base.clone(), place, self.random.byte_from(1));
-            let others = header_places(self.shape).into_iter().filter(|&other| other != place);
-            let others: Vec<_> = others.map(|other| with_byte(page.clone(), other, 254)).collect();
+            let byte = self.random.byte_from(1);
+            let page = with_byte(base.clone(), place, byte);
             let words = (0..self.shape.words).map(|index| with_word(page.clone(), index, NEVER_SOUND));
-            for page in words.chain(others) {
+            // The other is out of its range, or it and the byte are 0 together by exclusive or, or as a sum in 8 bits.
+            let others = header_places(self.shape).into_iter().filter(|&other| other != place);
+            let others = others.flat_map(|other| [254, byte, 0u8.wrapping_sub(byte)].map(|second| (other, second)));
+            let others = others.map(|(other, second)| with_byte(page.clone(), other, second));
+            // So are three of them.
+            let three = [[1, 2, 3], [1, 1, 254]].map(|bytes| tail.clone().zip(bytes));
+            let three = three.map(|bytes| bytes.fold(base.clone(), |page, (place, byte)| with_byte(page, place, byte)));
+            for page in words.chain(others).chain(three) {
                 self.pages(&Entry::taking(base[0], self.shape), &page);
             }
         }

@@ -233,6 +233,23 @@ fn every_byte_after_the_words_with_another_reason() {
     }
 }
 
+/// Two of bytes 509 to 511, and all of them, which are 0 together by exclusive or, and as a sum in 8 bits.
+#[test]
+fn several_bytes_after_the_words() {
+    for (entry, shape, state) in asked().filter(|(_, shape, _)| *shape == LARGE) {
+        let places = [vec![509, 510], vec![509, 511], vec![510, 511], vec![509, 510, 511]];
+        let wanted = places.into_iter().flat_map(|places| [(places.clone(), "or"), (places, "sum")]);
+        occurs_on(shape, entry, wanted, |call, answer| {
+            let refused = call.page[0] == state && number(answer) == number_for_a_byte(state);
+            let (places, bytes): (Vec<usize>, Vec<u8>) = set_after_the_words(&call.page).into_iter().unzip();
+            let or = bytes.iter().fold(0, |or, byte| or ^ byte) == 0;
+            let sum = bytes.iter().fold(0u8, |sum, &byte| sum.wrapping_add(byte)) == 0;
+            let kinds = [(or, "or"), (sum, "sum")].into_iter().filter(move |(is, _)| *is && refused);
+            kinds.map(|(_, kind)| (places.clone(), kind)).collect::<Vec<_>>()
+        });
+    }
+}
+
 /// "11 if two neighbours are set, 12 if the sum exceeds 4294967295".
 #[test]
 fn every_word_not_legal_for_each_reason() {
