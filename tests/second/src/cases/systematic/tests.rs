@@ -109,7 +109,7 @@ fn capacity_kind(filled: &[u8]) -> &'static str {
 
 #[test]
 fn the_number_of_calls() {
-    assert_eq!(answered().len(), 255_421);
+    assert_eq!(answered().len(), 255_631);
 }
 
 /// These calls alone meet every counter of a run but those of the other places of the buffers.
