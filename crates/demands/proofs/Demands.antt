@@ -6,7 +6,7 @@ use mathlib.Core.Path.{_≡_, refl, sym, ap, ap₂, _∙_, subst}
 use Prim.Native.Nat.{ℕ, _≤_}
 use native.Mathlib.Omega.{arith}
 use lib.Dec.{T, eqb, eqb→eq}
-use lib.ListN.{length, drop, getD, drop-of-length-le}
+use lib.ListN.{length, getD, drop-of-length-le}
 use lib.Seq.{drop-cons}
 use mir.Facts.{and-yes}
 use Rattle.cells.specs.Cells.{number, cells, pulses}
@@ -21,7 +21,7 @@ use Rattle.word.specs.Answer.{legalChecks, encodeAnswer, decodeAnswer, fillAnsw
 use Rattle.word.proofs.Answers.{legal-taken}
 use Rattle.word.proofs.Claims.{one-legal-word, legal-accepted, capacity-bounds}
 use Rattle.rows.specs.declared.shape.Shape.{Shape}
-use Rattle.rows.specs.Page.{page256, page512, shapeFor, shapeOf, tail, firstRecord, firstPage, filledPage, FirstRoundOf}
+use Rattle.rows.specs.Page.{page256, page512, shapeOf, tail, firstRecord, firstPage, filledPage, FirstRoundOf}
 use Rattle.rows.specs.Code.{fillCode, FitsOf, outcomeOf}
 use Rattle.rows.proofs.Shapes.{for-512, for-other, sizes, sound256, sound512, sound-of}
 use Rattle.page.specs.Answer.{writeFirstChecks, writeFirstAnswer, firstChecks, readFirstChecks, readFirstAnswer}

@@ -19,7 +19,7 @@ use Rattle.word.specs.Earlier.{fillEarlier, capacityEarlier}
 use Rattle.word.proofs.Earlier.{length-earlier, earlier-words}
 use Rattle.rows.specs.declared.shape.Shape.{Shape}
 use Rattle.rows.specs.Page.{page256, shapeOf, tail, stateFilled, stateSecond, sumOver, capacityAll, readAll, putAll, FirstRoundOf, FilledOf}
-use Rattle.rows.specs.Code.{fillCode, roomFor, roomAhead, ReadyOf, FitsOf, writtenOf, outcomeOf}
+use Rattle.rows.specs.Code.{fillCode, roomFor, roomAhead, FitsOf, writtenOf, outcomeOf}
 use Rattle.rows.proofs.EachWord.{Each, each-sparse, each-word, Row}
 use Rattle.rows.proofs.SecondWords.{row-putAll}
 use Rattle.rows.proofs.Shapes.{sound256, own-shape}

@@ -4,20 +4,20 @@
 use mathlib.Core.Bool.{Bool, false, _||_}
 use mathlib.Core.List.{List}
 use mathlib.Core.Logic.{_↔_, _⊎_, Iff·trans}
-use mathlib.Core.Path.{_≡_, refl, _∙_}
+use mathlib.Core.Path.{_≡_, refl, _∙_, subst}
 use Prim.Native.Nat.{ℕ, _*_, _≤_, _<_}
 use native.Mathlib.Omega.{arith}
 use lib.Dec.{T, ltb}
 use lib.ListN.{length}
-use Rattle.cells.specs.Bytes.{Bytes, zeros}
-use Rattle.answer.specs.Answer.{result, refusal, answer, numbers, among}
+use Rattle.cells.specs.Bytes.{Bytes, zeros, atStart}
+use Rattle.answer.specs.Answer.{Answer, result, refusal, answer, after, numbers, among}
 use Rattle.answer.proofs.Chains.{still-refused}
 use Rattle.answer.proofs.Tells.{Tells, less, itself, either, just, later, taken, nothing-left, flat3}
 use Rattle.window.specs.Words.{pageWords}
 use Rattle.window.proofs.Words.{length-pageWords}
 use Rattle.rows.specs.declared.shape.Shape.{Shape}
 use Rattle.rows.specs.Page.{state, byte2, tail, recordLength, badHeader}
-use Rattle.rows.specs.Code.{Code, longest, roomFor, foundOf, judgedOf, spareOf, ReadyOf, AllJudgedOf, SecondRoundOf}
+use Rattle.rows.specs.Code.{Code, longest, roomFor, writtenOf, foundOf, judgedOf, spareOf, recordOf, ReadyOf, AllJudgedOf, SecondRoundOf}
 use Rattle.rows.proofs.Headers.{header-tells}
 use Rattle.page.specs.Terms.{SizedOf, RecordHeaderOf, RestSetOf, LowestBad, RefusalsOf}
 use Rattle.page.specs.Answer.{stateChecks, writeChecks, recordChecks, readChecks}
@@ -142,3 +142,20 @@ module _ (c : Code) (same : (n : ℕ) (ws : List (List Bool)) → length (c .jud
       (headed-later s P (c .into) header _ n 3 i (omega arith)
       (word-later (c .passes) judged _ n 3 i (λ e. omega arith) (later too-few 9 0 _ n 3 i (λ e. omega arith) (just short 3 0 _ n refl i))))
       (Iff·trans (second-parts b) flat3)
+
+-- ---- what an operation gives by a shape that it found, and by the shape to which the code holds the page
+
+-- the answer and what the page, or the output, holds afterwards are right by a shape
+abbrev pub WriteRight : Code → List ℕ → List ℕ → Answer → List ℕ → Shape → Type 0
+WriteRight c P R a Q s = (a ≡ answer (writeChecks c s P R) 0) × (Q ≡ after (answer (writeChecks c s P R) 0) P (writtenOf c s P R))
+
+abbrev pub ReadRight : Code → List ℕ → List ℕ → Answer → List ℕ → Shape → Type 0
+ReadRight c P out a Q s =
+    (a ≡ answer (readChecks c s P out) (recordLength P))
+    × (Q ≡ after (answer (readChecks c s P out) (recordLength P)) out (atStart (recordOf c s P) out))
+
+pub write-held : (c : Code) (P R : List ℕ) (a : Answer) (Q : List ℕ) (s : Shape) → s ≡ c .shape P → WriteRight c P R a Q s → WriteRight c P R a Q (c .shape P)
+write-held c P R a Q s e r = subst (WriteRight c P R a Q) e r
+
+pub read-held : (c : Code) (P out : List ℕ) (a : Answer) (Q : List ℕ) (s : Shape) → s ≡ c .shape P → ReadRight c P out a Q s → ReadRight c P out a Q (c .shape P)
+read-held c P out a Q s e r = subst (ReadRight c P out a Q) e r

@@ -29,7 +29,6 @@ use Rattle.second.specs.Answer.{readSecondAnswer}
 use Rattle.inspect.specs.Rows.{inspectCode}
 use Rattle.inspect.specs.Answer.{readInspectAnswer}
 use Rattle.demands.specs.Demands.{dataCellsOf, filledCellsOf, ReaderOf}
-use Rattle.demands.proofs.Bounds.{capacity-is}
 use Rattle.demands.proofs.Demands.{demand1, demand3}
 use Rattle.demands.proofs.FirstPages.{first-written, words-written}
 use Rattle.report.specs.Kinds.{kindBy, kindOf}

@@ -2,37 +2,25 @@
 -- copied from what was read. Assumes nothing.
 mod Checks
 use mathlib.Core.List.{List}
-use mathlib.Core.Path.{_≡_, refl, sym, ap, _∙_, subst}
+use mathlib.Core.Path.{refl, sym, ap, _∙_}
 use Prim.Native.Nat.{ℕ, _≤_}
 use native.Mathlib.Omega.{arith}
 use Rattle.cells.specs.Bytes.{atStart}
-use Rattle.answer.specs.Answer.{Answer, answer, after}
 use Rattle.answer.proofs.Chains.{both-refused, both-done}
 use Rattle.word.specs.Word.{legal}
-use Rattle.rows.specs.declared.shape.Shape.{Shape}
-use Rattle.rows.specs.Page.{page256, recordLength}
-use Rattle.rows.specs.Code.{judgedOf, recordOf}
+use Rattle.rows.specs.Page.{recordLength}
+use Rattle.rows.specs.Code.{judgedOf}
 use Rattle.rows.proofs.Headers.{header-tells}
 use Rattle.rows.proofs.Shapes.{Sound, sound256, words-inside}
 use Rattle.page.specs.Terms.{RecordHeaderOf}
-use Rattle.page.specs.Answer.{readChecks}
 use Rattle.page.proofs.Headed.{row-bad}
-use Rattle.page.proofs.CodeAnswers.{length-judged, read-1, read-5, read-6, read-7}
+use Rattle.page.proofs.CodeAnswers.{length-judged, read-held, read-1, read-5, read-6, read-7}
 use Rattle.inspect.specs.Rows.{inspectCode}
 use Rattle.inspect.proofs.Rows.{length-unwalkedAll}
 use Rattle.inspect.proofs.read_inspect.Proof.Checks.{Found, all-found, inspect-ends, inspect-output, inspect-done, inspect-bytes}
 use borrow.Author.Needs.{needs}
 use Rattle.inspect.proofs.read_inspect.Statement.{statement}
 use Rattle.inspect.proofs.read_inspect.Tie as tie
-
--- an answer and an output that are right for a shape, and for the page of 256 bytes, which it is
-abbrev Right : List ℕ → List ℕ → Answer → List ℕ → Shape → Type 0
-Right P out a Q s =
-    (a ≡ answer (readChecks inspectCode s P out) (recordLength P))
-    × (Q ≡ after (answer (readChecks inspectCode s P out) (recordLength P)) out (atStart (recordOf inspectCode s P) out))
-
-own : (P out : List ℕ) (a : Answer) (Q : List ℕ) (s : Shape) → s ≡ page256 → Right P out a Q s → Right P out a Q page256
-own P out a Q s e r = subst (Right P out a Q) e r
 
 small-page-requires : tie.Need-small-page-requires
 small-page-requires c κs = search needs
@@ -42,7 +30,7 @@ found c = rw (c .small-page .ensures) (sound256, omega arith)
 
 returns : tie.Need-returns
 returns c =
-    own _ _ _ _ _ (c .before .before .small-page .ensures)
+    read-held inspectCode _ _ _ _ _ (c .before .before .small-page .ensures)
     (both-refused _ _ _ _ _ (read-1 inspectCode length-unwalkedAll _ _ _ 0 .1 (c .if1 .taken, refl)))
 
 shared-slice-read-if2 : tie.Need-shared-slice-read-if2
@@ -53,7 +41,7 @@ shared-slice-read-if2 c =
 returns-2 : tie.Need-returns-2
 returns-2 c =
     let sized = c .before .before in
-    own _ _ _ _ _ (sized .before .before .small-page .ensures)
+    read-held inspectCode _ _ _ _ _ (sized .before .before .small-page .ensures)
     (both-refused _ _ _ _ _ (read-5 inspectCode length-unwalkedAll _ _ _ 0 .1 (sized .if1 .left, c .if2 .taken, refl)))
 
 mul-bad-header : tie.Need-mul-bad-header
@@ -72,7 +60,7 @@ returns-3 c =
     let asked = c .before in
     let state = asked .before .before in
     let sized = state .before .before in
-    own _ _ _ _ _ (sized .before .before .small-page .ensures)
+    read-held inspectCode _ _ _ _ _ (sized .before .before .small-page .ensures)
     (both-refused _ _ _ _ _
     (read-6 inspectCode length-unwalkedAll _ _ _ 0 .1
     (sized .if1 .left, state .if2 .left, header-tells _ _ _ .if-holds (sym (asked .bad-header .ensures) ∙ c .if3 .taken), refl)))
@@ -130,7 +118,7 @@ returns-4 c =
     let a = shaped .before .before .before .args in
     let P = a .page .now in
     let g = read .read-words .ensures .0 in
-    own _ _ _ _ _ (shaped .small-page .ensures)
+    read-held inspectCode _ _ _ _ _ (shaped .small-page .ensures)
     (both-refused _ _ _ _ _
     (read-7 inspectCode length-unwalkedAll _ _ _ _ .1 (
       headed head,
@@ -160,14 +148,14 @@ mul-if5 c = omega (arith, length-small (head-of c))
 returns-5 : tie.Need-returns-5
 returns-5 c =
     let four = c .before .before in
-    own _ _ _ _ _ (head-of four .before .before .before .before .before .before .before .small-page .ensures)
+    read-held inspectCode _ _ _ _ _ (head-of four .before .before .before .before .before .before .before .small-page .ensures)
     (both-refused _ _ _ _ _ (inspect-ends _ _ _ _ _ (all four) (c .if5 .taken)))
 
 returns-6 : tie.Need-returns-6
 returns-6 c =
     let enough = c .before in
     let four = enough .before .before in
-    own _ _ _ _ _ (head-of four .before .before .before .before .before .before .before .small-page .ensures)
+    read-held inspectCode _ _ _ _ _ (head-of four .before .before .before .before .before .before .before .small-page .ensures)
     (both-refused _ _ _ _ _ (inspect-output _ _ _ _ _ (all four) (enough .if5 .left) (c .if6 .taken)))
 
 slice-aggregate-copy-start : tie.Need-slice-aggregate-copy-start
@@ -192,7 +180,7 @@ returns-7 c =
     let four = enough .before .before in
     let shaped = head-of four .before .before .before .before .before .before .before in
     let a = shaped .before .before .before .args in
-    own _ _ _ _ _ (shaped .small-page .ensures)
+    read-held inspectCode _ _ _ _ _ (shaped .small-page .ensures)
     (both-done _ _ _ _ _
     (inspect-done _ _ _ _ _ (all four) (enough .if5 .left) (roomy .if6 .left))
     (copy .copy-start .ensures

@@ -2,35 +2,23 @@
 -- copied from what was gathered. Assumes nothing.
 mod SecondChecks
 use mathlib.Core.List.{List}
-use mathlib.Core.Path.{_≡_, refl, sym, ap, _∙_, subst}
+use mathlib.Core.Path.{refl, sym, ap, _∙_}
 use Prim.Native.Nat.{ℕ, _≤_}
 use native.Mathlib.Omega.{arith}
 use borrow.Author.Needs.{needs}
 use Rattle.cells.specs.Bytes.{atStart}
-use Rattle.answer.specs.Answer.{Answer, answer, after}
 use Rattle.answer.proofs.Chains.{both-refused, both-done}
 use Rattle.word.specs.Fill.{wellFormed}
-use Rattle.rows.specs.declared.shape.Shape.{Shape}
-use Rattle.rows.specs.Page.{shapeOf, recordLength}
-use Rattle.rows.specs.Code.{fillCode, recordOf}
+use Rattle.rows.specs.Page.{recordLength}
+use Rattle.rows.specs.Code.{fillCode}
 use Rattle.rows.proofs.Headers.{header-tells}
 use Rattle.rows.proofs.Shapes.{Sound, sound-found, words-inside}
 use Rattle.page.specs.Terms.{RecordHeaderOf}
-use Rattle.page.specs.Answer.{readChecks}
 use Rattle.page.proofs.Headed.{lowest-bad}
-use Rattle.page.proofs.CodeAnswers.{read-1, read-5, read-6, read-7}
+use Rattle.page.proofs.CodeAnswers.{read-held, read-1, read-5, read-6, read-7}
 use Rattle.second.proofs.read_second.Proof.SecondChecks.{same-judged, Found, all-found, second-few, second-spare, second-output, second-done, second-record}
 use Rattle.second.proofs.read_second.Statement.{statement}
 use Rattle.second.proofs.read_second.Tie as tie
-
--- an answer and an output that are right for a shape, and for the page's own, which was found
-abbrev Right : List ℕ → List ℕ → Answer → List ℕ → Shape → Type 0
-Right P out a Q s =
-    (a ≡ answer (readChecks fillCode s P out) (recordLength P))
-    × (Q ≡ after (answer (readChecks fillCode s P out) (recordLength P)) out (atStart (recordOf fillCode s P) out))
-
-own : (P out : List ℕ) (a : Answer) (Q : List ℕ) (s : Shape) → s ≡ shapeOf P → Right P out a Q s → Right P out a Q (shapeOf P)
-own P out a Q s e r = subst (Right P out a Q) e r
 
 shape-of-requires : tie.Need-shape-of-requires
 shape-of-requires c κs = search needs
@@ -41,7 +29,7 @@ found c = sound-found _ _ (c .shape-of .ensures)
 returns : tie.Need-returns
 returns c =
     let shaped = c .before .before in
-    own (shaped .before .before .before .args .page .now) _ _ _ _ (shaped .shape-of .ensures)
+    read-held fillCode (shaped .before .before .before .args .page .now) _ _ _ _ (shaped .shape-of .ensures)
     (both-refused _ _ _ _ _ (read-1 fillCode same-judged _ _ _ 0 .1 (c .if1 .taken, refl)))
 
 shared-slice-read-if2 : tie.Need-shared-slice-read-if2
@@ -53,7 +41,7 @@ returns-2 : tie.Need-returns-2
 returns-2 c =
     let sized = c .before .before in
     let shaped = sized .before .before in
-    own (shaped .before .before .before .args .page .now) _ _ _ _ (shaped .shape-of .ensures)
+    read-held fillCode (shaped .before .before .before .args .page .now) _ _ _ _ (shaped .shape-of .ensures)
     (both-refused _ _ _ _ _ (read-5 fillCode same-judged _ _ _ 0 .1 (sized .if1 .left, c .if2 .taken, refl)))
 
 mul-bad-header : tie.Need-mul-bad-header
@@ -72,7 +60,7 @@ returns-3 c =
     let asked = c .before in
     let state = asked .before .before in
     let sized = state .before .before in
-    own _ _ _ _ _ (sized .before .before .shape-of .ensures)
+    read-held fillCode _ _ _ _ _ (sized .before .before .shape-of .ensures)
     (both-refused _ _ _ _ _
     (read-6 fillCode same-judged _ _ _ 0 .1
     (sized .if1 .left, state .if2 .left, header-tells _ _ _ .if-holds (sym (asked .bad-header .ensures) ∙ c .if3 .taken), refl)))
@@ -110,7 +98,7 @@ returns-4 c =
     let small = c .before in
     let gathered = small .before .before .before .before in
     let head = gathered .before .before in
-    own _ _ _ _ _ (head .before .before .before .before .before .before .before .shape-of .ensures)
+    read-held fillCode _ _ _ _ _ (head .before .before .before .before .before .before .before .shape-of .ensures)
     (both-refused _ _ _ _ _
     (read-7 fillCode same-judged _ _ _ _ .1 (headed head, lowest-bad _ wellFormed _ _ (gathered .gather .ensures .0) (small .if4 .taken))))
 
@@ -146,7 +134,7 @@ mul-if5 c = omega (arith, length-small (c .before))
 returns-5 : tie.Need-returns-5
 returns-5 c =
     let four = c .before .before .before in
-    own _ _ _ _ _ (four .before .before .before .before .before .before .before .before .before .before .before .before .before .shape-of .ensures)
+    read-held fillCode _ _ _ _ _ (four .before .before .before .before .before .before .before .before .before .before .before .before .before .shape-of .ensures)
     (both-refused _ _ _ _ _ (second-few _ _ _ _ _ (all four) (c .if5 .taken)))
 
 slice-aggregate-zero-from : tie.Need-slice-aggregate-zero-from
@@ -160,7 +148,7 @@ returns-6 c =
     let tested = c .before in
     let enough = tested .before .before in
     let four = enough .before .before .before in
-    own _ _ _ _ _ (four .before .before .before .before .before .before .before .before .before .before .before .before .before .shape-of .ensures)
+    read-held fillCode _ _ _ _ _ (four .before .before .before .before .before .before .before .before .before .before .before .before .before .shape-of .ensures)
     (both-refused _ _ _ _ _ (second-spare _ _ _ _ _ (all four) (sound-there four) _ (tested .zero-from .ensures) (c .if6 .taken)))
 
 returns-7 : tie.Need-returns-7
@@ -169,7 +157,7 @@ returns-7 c =
     let tested = clean .before in
     let enough = tested .before .before in
     let four = enough .before .before .before in
-    own _ _ _ _ _ (four .before .before .before .before .before .before .before .before .before .before .before .before .before .shape-of .ensures)
+    read-held fillCode _ _ _ _ _ (four .before .before .before .before .before .before .before .before .before .before .before .before .before .shape-of .ensures)
     (both-refused _ _ _ _ _
     (second-output _ _ _ _ _ (all four) (sound-there four) _ (tested .zero-from .ensures) (enough .if5 .left) (clean .if6 .left) (c .if7 .taken)))
 
@@ -197,7 +185,7 @@ returns-8 c =
     let four = enough .before .before .before in
     let shaped = four .before .before .before .before .before .before .before .before .before .before .before .before .before in
     let a = shaped .before .before .before .args in
-    own _ _ _ _ _ (shaped .shape-of .ensures)
+    read-held fillCode _ _ _ _ _ (shaped .shape-of .ensures)
     (both-done _ _ _ _ _
     (second-done _ _ _ _ _ (all four) (sound-there four) _ (tested .zero-from .ensures) (enough .if5 .left) (clean .if6 .left) (roomy .if7 .left))
     (copy .copy-start .ensures

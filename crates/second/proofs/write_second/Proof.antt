@@ -3,41 +3,32 @@
 -- Assumes nothing.
 mod Headers
 use mathlib.Core.List.{List}
-use mathlib.Core.Path.{_≡_, refl, sym, ap, _∙_, subst}
+use mathlib.Core.Path.{_≡_, refl, sym, ap, _∙_}
 use Prim.Native.Nat.{ℕ}
 use native.Mathlib.Omega.{arith}
 use borrow.Author.Needs.{needs}
 use lib.ListN.{length, length-set}
-use Rattle.answer.specs.Answer.{Answer, refusal, answer, after}
+use Rattle.answer.specs.Answer.{Answer, refusal, answer}
 use Rattle.answer.proofs.Chains.{both-refused, both-done}
 use Rattle.window.proofs.Words.{length-putWords}
 use Rattle.word.specs.Fill.{isFilled}
 use Rattle.rows.specs.declared.shape.Shape.{Shape}
 use Rattle.rows.specs.Page.{shapeOf, lowest, FilledOf}
-use Rattle.rows.specs.Code.{fillCode, writtenOf}
+use Rattle.rows.specs.Code.{fillCode}
 use Rattle.rows.proofs.Shapes.{Sound, sound-found, words-inside}
-use Rattle.page.specs.Answer.{writeChecks}
 use Rattle.page.proofs.Headed.{all-words}
-use Rattle.page.proofs.CodeAnswers.{write-refused}
+use Rattle.page.proofs.CodeAnswers.{WriteRight, write-held, write-refused}
 use Rattle.filled.specs.Answer.{filledChecks, roomFilled, filledCheckCode}
 use Rattle.filled.proofs.FilledAnswers.{check-filled-taken}
 use Rattle.second.proofs.write_second.Proof.Headers.{header-length, header-words, room-small, second-set, write-long, write-done}
 use Rattle.second.proofs.write_second.Statement.{statement}
 use Rattle.second.proofs.write_second.Tie as tie
 
--- an answer and a page that are right for a shape, and for the page's own, which was found
-abbrev Right : List ℕ → List ℕ → Answer → List ℕ → Shape → Type 0
-Right P R a Q s =
-    (a ≡ answer (writeChecks fillCode s P R) 0) × (Q ≡ after (answer (writeChecks fillCode s P R) 0) P (writtenOf fillCode s P R))
-
-own : (P R : List ℕ) (a : Answer) (Q : List ℕ) (s : Shape) → s ≡ shapeOf P → Right P R a Q s → Right P R a Q (shapeOf P)
-own P R a Q s e r = subst (Right P R a Q) e r
-
 -- what the check refuses
 refused : (P R : List ℕ) (s : Shape) (n i : ℕ) → s ≡ shapeOf P → _≡_ {A = Answer} (refusal n i) (answer (filledChecks s P) (roomFilled s P))
-    → Right P R (refusal n i) P (shapeOf P)
+    → WriteRight fillCode P R (refusal n i) P (shapeOf P)
 unfolding filledChecks
-refused P R s n i e h = own P R (refusal n i) P s e (both-refused _ _ _ _ _ (write-refused fillCode s P R (roomFilled s P) n i (sym h)))
+refused P R s n i e h = write-held fillCode P R (refusal n i) P s e (both-refused _ _ _ _ _ (write-refused fillCode s P R (roomFilled s P) n i (sym h)))
 
 shape-of-requires : tie.Need-shape-of-requires
 shape-of-requires c κs = search needs
@@ -72,7 +63,7 @@ returns : tie.Need-returns
 returns c =
     let told = c .before in
     let p = passed told in
-    own _ _ _ _ _ (told .before .before .before .before .before .shape-of .ensures)
+    write-held fillCode _ _ _ _ _ (told .before .before .before .before .before .shape-of .ensures)
     (both-refused _ _ _ _ _ (write-long _ _ _ (p .0) _ (p .1) (c .if1 .taken)))
 
 slice-write-page : tie.Need-slice-write-page
@@ -120,7 +111,7 @@ returns-2 c =
     let fits = words .before .before in
     let p = passed (fits .before) in
     let shaped = fits .before .before .before .before .before .before in
-    own _ _ _ _ _ (shaped .shape-of .ensures)
+    write-held fillCode _ _ _ _ _ (shaped .shape-of .ensures)
     (both-done _ _ _ _ _ (write-done _ _ _ (p .0) _ (p .1) (fits .if1 .left))
     (words .put-record .ensures ∙ second-set (shaped .shape-of .result) _ _ (omega (arith, p .0 .sized, found shaped .inside))))
 
