@@ -139,10 +139,20 @@ impl Entry {
         }
     }
 
+    /// Whether the entry accepts pages of this shape.
+    pub fn takes(self, shape: Shape) -> bool {
+        self.shapes().contains(&shape)
+    }
+
     /// The entries that take a page in this state and of this shape.
     pub fn taking(state: u8, shape: Shape) -> Vec<Entry> {
-        let takes = |entry: &Entry| entry.states().contains(&state) && entry.shapes().contains(&shape);
+        let takes = |entry: &Entry| entry.states().contains(&state) && entry.takes(shape);
         Entry::OF_PAGES.into_iter().filter(takes).collect()
+    }
+
+    /// Each of the entries with each shape that it takes.
+    pub fn with_shapes(entries: &[Entry]) -> impl Iterator<Item = (Entry, Shape)> + '_ {
+        entries.iter().flat_map(|&entry| entry.shapes().iter().map(move |&shape| (entry, shape)))
     }
 
     pub fn takes_page(self) -> bool {

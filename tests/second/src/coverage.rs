@@ -49,7 +49,7 @@ fn size_name(size: Size) -> String {
 /// among them, on each that it takes.
 fn can_give(entry: Entry, size: Size, number: u8) -> bool {
     let given = number == 0 || entry.refusals().contains(&number);
-    let taken = size.map_or(!entry.takes_page(), |shape| entry.shapes().contains(&shape));
+    let taken = size.map_or(!entry.takes_page(), |shape| entry.takes(shape));
     given && taken == (number != 1) && (size.is_none() || entry.takes_page())
 }
 
@@ -211,7 +211,7 @@ impl Coverage {
                 let filled = self.measured[Place::Canaries.number()][size_number(size)][1][0];
                 format!("  filled accepted: {filled}") + &self.shapes[shape.number()].told_of(entry)
             }
-            (_, Some(shape)) if entry.shapes().contains(&shape) => self.shapes[shape.number()].told_of(entry),
+            (_, Some(shape)) if entry.takes(shape) => self.shapes[shape.number()].told_of(entry),
             _ => String::new(),
         }
     }

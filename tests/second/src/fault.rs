@@ -208,6 +208,18 @@ mod tests {
     }
 
     #[test]
+    fn the_report_names_the_size_of_the_page() {
+        let mark = Mark::new();
+        let call = Call::of_page(Entry::ReadFirst, vec![1; 512], vec![2; 352]);
+        let case = Case::new(7, Part::Systematic, 31, &call).at(Place::Guarded(Side::Before));
+        mark.set(&case, 0, 0);
+        assert!(case
+            .to_string()
+            .ends_with("read first (page of 512 bytes, other buffer of 352 bytes, right before untouchable memory)"));
+        assert!(text_of(&mark.report(SIGSEGV)).contains(&case.to_string()));
+    }
+
+    #[test]
     fn the_report_names_the_case_of_a_file() {
         let mark = Mark::new();
         let case = Case::new(7, Part::Far, 31, &Call::of_file(1, vec![1; 512], Vec::new())).at(Place::Far);

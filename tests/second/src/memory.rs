@@ -240,7 +240,7 @@ mod tests {
     #[test]
     fn a_buffer_right_before_untouchable_memory() {
         let mut arena = Arena::new();
-        for length in [1, 2, 176, 255, 256, 4_096, 4_097, 65_700, ARENA_BYTES - 1] {
+        for length in [1, 2, 176, 255, 256, 352, 511, 512, 4_096, 4_097, 65_700, ARENA_BYTES - 1] {
             let bytes = vec![7; length];
             assert_eq!(access_about(arena.put(&bytes, Side::Before, Access::Writable)), ["rw", "rw", "rw", "--"]);
             assert_eq!(access_about(arena.put(&bytes, Side::Before, Access::ReadOnly)), ["r-", "r-", "r-", "--"]);
@@ -250,7 +250,7 @@ mod tests {
     #[test]
     fn a_buffer_right_after_untouchable_memory() {
         let mut arena = Arena::new();
-        for length in [1, 2, 176, 255, 256, 4_096, 4_097, 65_700, ARENA_BYTES - 1] {
+        for length in [1, 2, 176, 255, 256, 352, 511, 512, 4_096, 4_097, 65_700, ARENA_BYTES - 1] {
             let bytes = vec![7; length];
             assert_eq!(access_about(arena.put(&bytes, Side::After, Access::Writable)), ["--", "rw", "rw", "rw"]);
             assert_eq!(access_about(arena.put(&bytes, Side::After, Access::ReadOnly)), ["--", "r-", "r-", "r-"]);

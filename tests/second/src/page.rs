@@ -225,7 +225,7 @@ mod tests {
         any_first, any_record, filled_page_earlier, first_page, page_of, second_page_earlier, values_with_pulses,
         with_byte, with_cell_45_flipped, with_value, with_word, without_separator,
     };
-    use crate::cases::words::{unwritten, END_VALUES, OPEN_SPARSE_VALUE, OPEN_VALUES, SPARSE_VALUE};
+    use crate::cases::words::{never_sound, unwritten, END_VALUES, OPEN_SPARSE_VALUE, OPEN_VALUES, SPARSE_VALUE};
     use crate::random::Random;
     use crate::shape::{LARGE, SMALL};
 
@@ -576,10 +576,8 @@ mod tests {
     /// The page, and the same with a word that is sound in no state, 7's reason: in one of chosen words, and in all.
     fn with_bad_words(page: Vec<u8>) -> Vec<Vec<u8>> {
         let words = known_shape(&page).words;
-        // Cells 0 to 2 set: two neighbours; a data cell set; and a hole from cell 4 on.
-        let bad = std::array::from_fn(|cell| cell < 3);
-        let one = [0, 43, words - 1].map(|index| with_word(page.clone(), index, bad));
-        let all = (0..words).fold(page.clone(), |page, index| with_word(page, index, bad));
+        let one = [0, 43, words - 1].map(|index| with_word(page.clone(), index, never_sound()));
+        let all = (0..words).fold(page.clone(), |page, index| with_word(page, index, never_sound()));
         [&[page], &one[..], &[all]].concat()
     }
 

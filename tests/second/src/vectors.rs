@@ -639,7 +639,7 @@ mod tests {
         for (index, call) in calls().into_iter().enumerate() {
             assert_eq!(call.entry == Entry::WriteFile, (1_194..1_220).contains(&index), "{index}");
             assert!(index >= 1_220 || !Entry::OF_INSPECT.contains(&call.entry), "{index}");
-            let large = call.page.len() == LARGE.bytes && call.entry.shapes().contains(&LARGE);
+            let large = call.page.len() == LARGE.bytes && call.entry.takes(LARGE);
             assert!(index >= before_the_large || !large, "{index}");
         }
     }

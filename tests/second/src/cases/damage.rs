@@ -196,8 +196,9 @@ fn damage(random: &mut Random, call: &mut Call, number: u8) {
     }
 }
 
-/// A call over a page of this shape that meets the conditions of the chosen refusals of its entry: bit k of `chosen` stands for the k-th in the
-/// stated order. The last is brought about first, since an earlier one may hide what a later one needs.
+/// A call over a page of this shape that meets the conditions of the chosen refusals of its entry: bit k of `chosen`
+/// stands for the k-th in the stated order. The last is brought about first, since an earlier one may hide what a later one
+/// needs.
 pub fn combined(random: &mut Random, entry: Entry, chosen: usize, shape: Shape) -> Call {
     combined_by(random, entry, chosen, shape, filled_page)
 }

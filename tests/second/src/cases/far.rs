@@ -127,11 +127,6 @@ fn far_other_lengths(entry: Entry, shape: Shape) -> Vec<usize> {
     lengths.filter(|&length| length >= near_length(entry, shape)).collect()
 }
 
-/// Each of the entries with each shape that it takes.
-fn with_shapes(entries: &[Entry]) -> impl Iterator<Item = (Entry, Shape)> + '_ {
-    entries.iter().flat_map(|&entry| entry.shapes().iter().map(move |&shape| (entry, shape)))
-}
-
 /// None of the entry's refusals, and each by itself but those for the other buffer's length: choices for `combined`.
 fn single_choices(entry: Entry) -> Vec<usize> {
     let single = |(place, number): (usize, &u8)| (!matches!(number, 2 | 3 | 8)).then_some(1 << place);
@@ -147,9 +142,9 @@ struct Walk {
 /// All calls with far lengths.
 pub fn calls() -> Vec<FarCall> {
     let mut walk = Walk { random: Random::new(SEED), calls: Vec::new() };
-    with_shapes(&Entry::OF_PAGES).for_each(|(entry, shape)| walk.pages(entry, shape));
-    with_shapes(&Entry::WITH_OTHER).for_each(|(entry, shape)| walk.others(entry, shape));
-    with_shapes(&Entry::WITH_OTHER).for_each(|(entry, shape)| walk.both(entry, shape));
+    Entry::with_shapes(&Entry::OF_PAGES).for_each(|(entry, shape)| walk.pages(entry, shape));
+    Entry::with_shapes(&Entry::WITH_OTHER).for_each(|(entry, shape)| walk.others(entry, shape));
+    Entry::with_shapes(&Entry::WITH_OTHER).for_each(|(entry, shape)| walk.both(entry, shape));
     Shape::BOTH.into_iter().for_each(|shape| walk.second_outputs(shape));
     walk.inspect_outputs();
     Shape::BOTH.into_iter().for_each(|shape| walk.records(shape));
@@ -238,7 +233,7 @@ impl Walk {
         let any = any_first(&mut self.random, shape);
         for first in [page_of(shape, SPARSE_VALUE), page_of(shape, 0), any] {
             self.records_over(Entry::WriteSecond, &filled_page(&first));
-            if Entry::WriteInspect.shapes().contains(&shape) {
+            if Entry::WriteInspect.takes(shape) {
                 self.records_over(Entry::WriteInspect, &first);
             }
         }
@@ -331,7 +326,7 @@ mod tests {
     #[test]
     fn both_sizes() {
         let calls = calls();
-        for (entry, shape) in with_shapes(&Entry::WITH_OTHER) {
+        for (entry, shape) in Entry::with_shapes(&Entry::WITH_OTHER) {
             let of_entry = calls.iter().filter(|far| far.near.entry == entry && far.page.is_none());
             let count = of_entry.filter(|far| far.near.page.len() == shape.bytes).count();
             assert!(count >= 10, "{} {} {count}", entry.name(), shape.bytes);

@@ -1,6 +1,6 @@
 //! The length classes of pages, data, records, outputs and the pages of a file.
 
-use super::files::{any_bytes, Contents};
+use super::files::{any_bytes, ones, zeros, Contents};
 use crate::call::Entry;
 use crate::file::file_bytes;
 use crate::random::Random;
@@ -14,6 +14,9 @@ pub const FAR_RECORD_LENGTHS: [usize; 9] = [200, 255, 256, 257, 1_000, 8_192, 8_
 const CUT_PAGES_LENGTHS: [usize; 7] = [1, 255, 257, 511, 513, 16_383, 16_385];
 /// Lengths of more than 64 pages, of which 65,536 and those after it are, cut to 16 bits, those of 0, 1 and 64 pages.
 pub const FAR_PAGES_LENGTHS: [usize; 8] = [16_639, 16_640, 16_641, 16_896, 32_768, 65_536, 65_792, 81_920];
+
+/// What may follow a page of 256 bytes in a buffer of 512.
+pub const AFTER_A_PAGE: [Contents; 3] = [zeros, ones, any_bytes];
 
 /// The bytes cut to the length, or followed by such bytes up to it.
 pub fn resized_with(random: &mut Random, mut bytes: Vec<u8>, length: usize, after: Contents) -> Vec<u8> {

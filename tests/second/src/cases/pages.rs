@@ -1,8 +1,7 @@
 //! Pages of both sizes for the calls: of every state, valid and damaged, and as versions before Change 6 left them.
 
-use super::files::{any_bytes, ones, zeros, Contents};
 use super::inspect::{any_inspect, any_inspect_kind};
-use super::lengths::resized_with;
+use super::lengths::{resized_with, AFTER_A_PAGE};
 use super::words::{self, any_value, value_with_pulses, Hole, SPARSE_VALUE};
 use crate::call::Entry;
 use crate::page::{self, known_shape, Words, FILLED, FIRST_ROUND, INSPECTED, SECOND_ROUND};
@@ -89,6 +88,13 @@ pub fn with_word(mut page: Vec<u8>, index: usize, cells: Cells) -> Vec<u8> {
 /// The page with another byte in this place.
 pub fn with_byte(mut page: Vec<u8>, place: usize, byte: u8) -> Vec<u8> {
     page[place] = byte;
+    page
+}
+
+/// The page with the bytes after its words at 0.
+pub fn with_sound_tail(mut page: Vec<u8>) -> Vec<u8> {
+    let tail = known_shape(&page).tail();
+    page[tail].fill(0);
     page
 }
 
@@ -427,8 +433,8 @@ fn of_any_bytes(random: &mut Random, shape: Shape) -> Vec<u8> {
 /// The bytes of a valid page of the other size at this one's length: cut, or followed by zeros, by ones or by any bytes.
 fn of_the_other_size(random: &mut Random, shape: Shape) -> Vec<u8> {
     let page = random.pick::<Maker>(&[blank, any_first, any_filled, any_second])(random, shape.other());
-    let contents = random.pick::<Contents>(&[zeros, ones, any_bytes]);
-    resized_with(random, page, shape.bytes, contents)
+    let after = random.pick(&AFTER_A_PAGE);
+    resized_with(random, page, shape.bytes, after)
 }
 
 /// Makes a page of some kind.
@@ -523,14 +529,18 @@ mod tests {
     use crate::page::{page_capacity, read_first, read_second, write_first, write_second};
     use std::collections::HashSet;
 
-    /// The number of page capacity's answer.
-    fn measured(page: &[u8]) -> u8 {
-        number(page_capacity(page))
-    }
-
     /// The number of read second's answer, with an output that is long enough.
     fn read(page: &[u8]) -> u8 {
         number(read_second(page, &mut [0; 255]))
+    }
+
+    /// The number of the answer of read second in state 07, and of page capacity in others.
+    fn judged(page: &[u8]) -> u8 {
+        if page[0] == SECOND_ROUND {
+            read(page)
+        } else {
+            number(page_capacity(page))
+        }
     }
 
     #[test]
@@ -570,18 +580,17 @@ mod tests {
     #[test]
     fn pages_with_a_header_byte() {
         let mut random = Random::new(6);
-        let makers: [(Maker, Maker, fn(&[u8]) -> u8); 3] = [
-            (first_with_header, first_with_both, measured),
-            (filled_with_header, filled_with_both, measured),
-            (second_with_header, second_with_both, read),
+        let makers: [[Maker; 2]; 3] = [
+            [first_with_header, first_with_both],
+            [filled_with_header, filled_with_both],
+            [second_with_header, second_with_both],
         ];
-        for (shape, (alone, both, answer)) in
-            Shape::BOTH.into_iter().flat_map(|shape| makers.map(|three| (shape, three)))
-        {
-            let met: HashSet<u8> = (0..2_000).map(|_| answer(&alone(&mut random, shape))).collect();
-            assert!(met.is_superset(&HashSet::from([0, 6])) && !met.contains(&7), "{met:?}");
-            let met: HashSet<u8> = (0..2_000).map(|_| answer(&both(&mut random, shape))).collect();
-            assert_eq!(met, HashSet::from([6, 7]));
+        for (shape, pair) in Shape::BOTH.into_iter().flat_map(|shape| makers.map(|pair| (shape, pair))) {
+            let mut answers =
+                |maker: Maker| -> HashSet<u8> { (0..2_000).map(|_| judged(&maker(&mut random, shape))).collect() };
+            let [alone, both] = pair.map(&mut answers);
+            assert!(alone.is_superset(&HashSet::from([0, 6])) && !alone.contains(&7), "{alone:?}");
+            assert_eq!(both, HashSet::from([6, 7]));
         }
     }
 

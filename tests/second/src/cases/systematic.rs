@@ -12,8 +12,8 @@ use super::damage::{choices, combined};
 use super::inspect::{inspect_page, large_inspect};
 use super::pages::*;
 use super::words::{
-    any_value, sum_too_large, unwritten, with_bare_hole, with_hole, with_neighbours, with_one_data_cell, Hole,
-    LISTED_VALUES, ODD_VALUE, OPEN_ODD_VALUE, OPEN_SPARSE_VALUE, SPARSE_VALUE,
+    any_value, never_sound, sum_too_large, unwritten, with_bare_hole, with_hole, with_neighbours, with_one_data_cell,
+    Hole, LISTED_VALUES, ODD_VALUE, OPEN_ODD_VALUE, OPEN_SPARSE_VALUE, SPARSE_VALUE,
 };
 use crate::call::{Call, Entry};
 use crate::inspect::INSPECT_BYTES_MOST;
@@ -25,15 +25,6 @@ use crate::word::{
 };
 
 const SEED: u64 = 1_012;
-
-/// A word that is sound in no state: two neighbours are set, a data cell is set, and from cell 4 on there is a hole.
-const NEVER_SOUND: Cells = {
-    let mut cells = [false; CELLS];
-    cells[0] = true;
-    cells[1] = true;
-    cells[2] = true;
-    cells
-};
 
 /// Values to whose words the fill adds no cell: in two of them the first data set cell 45, and two are open.
 const ALIKE_VALUES: [u32; 4] = [SPARSE_VALUE, ODD_VALUE, OPEN_SPARSE_VALUE, OPEN_ODD_VALUE];
@@ -124,15 +115,6 @@ impl Walk {
         page_of(self.shape, value)
     }
 
-    /// All of these on 256 bytes; on 512, which has twice the places to walk through, one of them by turns.
-    fn some<'a, T>(&self, all: &'a [T], turn: usize) -> &'a [T] {
-        if self.shape == SMALL || all.is_empty() {
-            return all;
-        }
-        let one = turn % all.len();
-        &all[one..=one]
-    }
-
     /// Values at every weight and beside it, listed values and the largest, and their words.
     fn values(&mut self) {
         for value in values_about_weights().chain(LISTED_VALUES).chain([u32::MAX - 1, u32::MAX]) {
@@ -191,7 +173,7 @@ impl Walk {
         for (base, place) in self.bases().iter().flat_map(|base| tail.clone().map(move |place| (base, place))) {
             let byte = self.random.byte_from(1);
             let page = with_byte(base.clone(), place, byte);
-            let words = (0..self.shape.words).map(|index| with_word(page.clone(), index, NEVER_SOUND));
+            let words = (0..self.shape.words).map(|index| with_word(page.clone(), index, never_sound()));
             // The other is out of its range, or it and the byte are 0 together by exclusive or, or as a sum in 8 bits.
             let others = header_places(self.shape).into_iter().filter(|&other| other != place);
             let others = others.flat_map(|other| [254, byte, 0u8.wrapping_sub(byte)].map(|second| (other, second)));
@@ -216,12 +198,10 @@ impl Walk {
     fn illegal_words(&mut self) {
         let entries = Entry::taking(FIRST_ROUND, self.shape);
         for (index, &cells) in words_of(&self.first).iter().enumerate() {
-            for cell in 0..CELLS - 1 {
-                let page = with_word(self.first.clone(), index, with_neighbours(cells, cell));
-                self.pages(self.some(&entries, cell), &page);
-            }
-            for sum in [cells_with_sum(LARGEST_VALUE + 1), sum_too_large(&mut self.random)] {
-                self.pages(&entries, &with_word(self.first.clone(), index, sum));
+            let pairs = (0..CELLS - 1).map(|cell| with_neighbours(cells, cell));
+            let sums = [cells_with_sum(LARGEST_VALUE + 1), sum_too_large(&mut self.random)];
+            for damaged in pairs.chain(sums) {
+                self.pages(&entries, &with_word(self.first.clone(), index, damaged));
             }
         }
     }
@@ -283,7 +263,7 @@ impl Walk {
     /// Every single bit flipped of this page, for these entries.
     fn flips_of(&mut self, page: &[u8], entries: &[Entry]) {
         for bit in 0..8 * page.len() {
-            self.pages(self.some(entries, bit), &with_flip(page.to_vec(), bit));
+            self.pages(entries, &with_flip(page.to_vec(), bit));
         }
     }
 
@@ -315,28 +295,25 @@ impl Walk {
     fn data_cells(&mut self) {
         self.data_cells_of(&filled_page(&self.page_of(0)), &Entry::OF_FILLED_PAGES);
         self.data_cells_of(&second_page(&self.page_of(0), &[0; 20]), &[Entry::ReadSecond]);
-        if self.shape == SMALL {
-            self.data_cells_of(&self.second.clone(), &[Entry::ReadSecond]);
-        }
+        self.data_cells_of(&self.second.clone(), &[Entry::ReadSecond]);
     }
 
     /// Every data cell of this page set by itself, for these entries.
     fn data_cells_of(&mut self, page: &[u8], entries: &[Entry]) {
-        for (turn, (index, cell)) in data_cells_of(&words_of(page)).into_iter().enumerate() {
-            self.pages(self.some(entries, turn), &with_cell(page.to_vec(), index, cell));
+        for (index, cell) in data_cells_of(&words_of(page)) {
+            self.pages(entries, &with_cell(page.to_vec(), index, cell));
         }
     }
 
     /// Every choice of refusals of the entries that take a page of this size.
     fn refusals(&mut self) {
-        let entries = Entry::OF_PAGES.into_iter().filter(|entry| entry.shapes().contains(&self.shape));
+        let entries = Entry::OF_PAGES.into_iter().filter(|entry| entry.takes(self.shape));
         entries.collect::<Vec<_>>().into_iter().for_each(|entry| self.refusals_of(entry));
     }
 
     /// Every choice of the entry's refusals, several times.
     fn refusals_of(&mut self, entry: Entry) {
-        let count = if self.shape == SMALL { 640 } else { 256 };
-        for chosen in (0..choices(entry)).cycle().take(count) {
+        for chosen in (0..choices(entry)).cycle().take(640) {
             let call = combined(&mut self.random, entry, chosen, self.shape);
             self.calls.push(call);
         }

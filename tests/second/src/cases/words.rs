@@ -71,6 +71,11 @@ pub fn illegal(random: &mut Random) -> Cells {
     with_neighbours(cells, random.below(CELLS - 1))
 }
 
+/// A word that is sound in no state: two neighbours are set, a data cell is set, and from cell 4 on there is a hole.
+pub fn never_sound() -> Cells {
+    std::array::from_fn(|cell| cell < 3)
+}
+
 /// Where the fill could still set a cell.
 #[derive(Clone, Copy, Debug)]
 pub enum Hole {
@@ -231,6 +236,13 @@ mod tests {
                 assert!(!word::well_formed(&without_separator(&mut random, cells)));
             }
         }
+    }
+
+    #[test]
+    fn a_word_that_is_sound_in_no_state() {
+        let cells = never_sound();
+        assert_eq!((word::legal(&cells), word::well_formed(&cells), word::unwritten(&cells)), (false, false, false));
+        assert_eq!((word::read_back(&cells), cells[1]), (vec![1, 3], true));
     }
 
     /// A well-formed word ends in one separator or two from cell 43 on; with a hole at the end, in none.

@@ -221,11 +221,6 @@ impl OfShape {
         }
     }
 
-    /// Whether pages of the shape are for the entry.
-    fn takes(&self, entry: Entry) -> bool {
-        entry.shapes().contains(&self.shape)
-    }
-
     /// Every counter that must not be 0, with its name.
     pub fn wanted(&self) -> Vec<Named> {
         let words = (0..FLAWS.len()).flat_map(|place| self.wanted_words(place));
@@ -238,7 +233,7 @@ impl OfShape {
     fn wanted_words(&self, place: usize) -> Vec<Named> {
         let (entry, flaw) = FLAWS[place];
         let name = |index: usize| format!("{} 7 at word {index}, {}", entry.name(), flaw.name());
-        let words = self.words[place].iter().enumerate().filter(|_| self.takes(entry));
+        let words = self.words[place].iter().enumerate().filter(|_| entry.takes(self.shape));
         words.map(|(index, &met)| (name(index), met)).collect()
     }
 
@@ -271,7 +266,7 @@ impl OfShape {
 
     /// Each entry of the Inspect code that takes the shape, with each of `WALK_ENDS` and its counter.
     fn of_walks(&self) -> impl Iterator<Item = (Entry, usize, u64)> + '_ {
-        let entries = Entry::OF_INSPECT.into_iter().zip(self.walks).filter(|(entry, _)| self.takes(*entry));
+        let entries = Entry::OF_INSPECT.into_iter().zip(self.walks).filter(|(entry, _)| entry.takes(self.shape));
         entries.flat_map(|(entry, met)| WALK_ENDS.into_iter().zip(met).map(move |(bits, met)| (entry, bits, met)))
     }
 
@@ -314,7 +309,7 @@ mod tests {
         filled_page, filled_page_earlier, first_page, page_of, second_page, second_page_earlier, values_with_pulses,
         with_byte, with_data_cell, with_value, with_word,
     };
-    use crate::cases::words::{END_VALUES, ODD_VALUE, OPEN_VALUES, SPARSE_VALUE};
+    use crate::cases::words::{never_sound, END_VALUES, ODD_VALUE, OPEN_VALUES, SPARSE_VALUE};
     use crate::word::{cells_with_sum, LARGEST_SUM};
     use std::collections::HashSet;
 
@@ -536,7 +531,7 @@ mod tests {
             let name = |without: &str| format!("{} 6 by byte {place} {without} in state 0{}", entry.name(), page[0]);
             let damaged = with_byte(page.clone(), place, 0x80);
             assert_eq!(met_by(entry, damaged.clone()), [name("alone")]);
-            let bad_word = with_word(damaged.clone(), 87, std::array::from_fn(|cell| cell < 3));
+            let bad_word = with_word(damaged.clone(), 87, never_sound());
             assert_eq!(met_by(entry, bad_word), [name("before 7")]);
             for other in [1, 2, 509, 510, 511].into_iter().filter(|&other| other != place) {
                 assert_eq!(met_by(entry, with_byte(damaged.clone(), other, 254)), [""; 0]);

@@ -1,4 +1,4 @@
-//! Counters of the pages that one byte after their words alone lets be refused.
+//! Counters of the pages that are refused for one byte after their words alone.
 
 use crate::answer::{number, Answer, Refusal};
 use crate::call::{Call, Entry};
@@ -6,10 +6,11 @@ use crate::page::BLANK;
 use crate::shape::Shape;
 use std::collections::HashMap;
 
-/// What the same call is refused for without the byte: nothing that has to do with it, or a word.
+/// What the page is like with that byte at 0.
 #[derive(Clone, Copy, PartialEq, Eq, Hash)]
 enum Without {
     Sound,
+    /// 7 is for it.
     BadWord,
 }
 
@@ -22,7 +23,7 @@ impl Without {
     }
 }
 
-/// An entry, a state that it takes, the place of the byte, and what there is without it.
+/// An entry, a state that it takes, the place of the byte, and what the page is like without it.
 type Key = (Entry, u8, usize, Without);
 
 pub struct Tails {
@@ -60,21 +61,18 @@ impl Tails {
 
     /// Every counter that must not be 0, with its name. Write first does not look at words.
     pub fn wanted(&self) -> Vec<(String, u64)> {
-        let pairs = Entry::OF_PAGES.into_iter().filter(|entry| entry.shapes().contains(&self.shape));
-        let pairs = pairs.flat_map(|entry| entry.states().iter().map(move |&state| (entry, state)));
+        let entries = Entry::OF_PAGES.into_iter().filter(|entry| entry.takes(self.shape));
+        let pairs = entries.flat_map(|entry| entry.states().iter().map(move |&state| (entry, state)));
         let places = pairs.flat_map(|(entry, state)| self.shape.tail().map(move |place| (entry, state, place)));
-        let keys = places.flat_map(|(entry, state, place)| {
-            let looks = [Without::Sound, Without::BadWord]
-                .into_iter()
-                .filter(move |without| *without == Without::Sound || entry.refusals().contains(&7));
-            looks.map(move |without| (entry, state, place, without))
-        });
+        let kinds = [Without::Sound, Without::BadWord];
+        let keys = places.flat_map(|(entry, state, place)| kinds.map(|without| (entry, state, place, without)));
+        let keys = keys.filter(|(entry, .., without)| *without == Without::Sound || entry.refusals().contains(&7));
         keys.map(|key| (name_of(key), self.met.get(&key).copied().unwrap_or(0))).collect()
     }
 
     /// How often the entry has refused such a page, if there can be one.
     pub fn told_of(&self, entry: Entry) -> String {
-        if self.shape.tail().is_empty() || !entry.shapes().contains(&self.shape) {
+        if self.shape.tail().is_empty() || !entry.takes(self.shape) {
             return String::new();
         }
         let met: u64 = self.met.iter().filter(|((of, ..), _)| *of == entry).map(|(_, met)| met).sum();

@@ -3,13 +3,15 @@
 
 use super::{Script, LENGTH_MOST};
 use crate::call::{Call, Entry};
-use crate::cases::files::{any_bytes, ones, zeros, Contents};
+use crate::cases::files::zeros;
 use crate::cases::inspect::{any_inspect, large_inspect};
-use crate::cases::lengths::{resized, resized_with, wrong_data_lengths, wrong_page_lengths, FAR_RECORD_LENGTHS};
+use crate::cases::lengths::{
+    resized, resized_with, wrong_data_lengths, wrong_page_lengths, AFTER_A_PAGE, FAR_RECORD_LENGTHS,
+};
 use crate::cases::pages::*;
 use crate::cases::words::{
-    sum_too_large, value_with_pulses, with_bare_hole, with_hole, with_neighbours, with_one_data_cell, Hole, EDGE_VALUE,
-    END_VALUES, ODD_VALUE, SPARSE_VALUE,
+    never_sound, sum_too_large, value_with_pulses, with_bare_hole, with_hole, with_neighbours, with_one_data_cell,
+    Hole, EDGE_VALUE, END_VALUES, ODD_VALUE, SPARSE_VALUE,
 };
 use crate::page::{data_cells_of, words_of};
 use crate::random::Random;
@@ -36,9 +38,6 @@ const READERS: [(Maker, Entry); 4] = [
 /// The same for those that print one.
 const WRITERS: [(Maker, Entry); 2] = [(any_first, Entry::FillPage), (any_filled, Entry::WriteSecond)];
 
-/// What follows a page of 256 bytes in a buffer of 512.
-const AFTER_A_PAGE: [Contents; 3] = [zeros, ones, any_bytes];
-
 /// The calls with pages of 512 bytes. Their bytes are drawn apart from those of the other calls.
 pub fn calls() -> Vec<Call> {
     let mut script = Script { random: Random::new(SEED), calls: Vec::new() };
@@ -58,7 +57,7 @@ pub fn calls() -> Vec<Call> {
     script.large_first_outputs();
     script.large_second_outputs();
     script.refused_by_inspect();
-    let entries = Entry::OF_PAGES.into_iter().filter(|entry| entry.shapes().contains(&LARGE));
+    let entries = Entry::OF_PAGES.into_iter().filter(|entry| entry.takes(LARGE));
     entries.for_each(|entry| script.orders_of(entry, LARGE));
     script.calls
 }
@@ -207,13 +206,11 @@ impl Script {
                 self.page_with(entry, &with_byte(page.clone(), other, 0xFE), 9);
             }
         }
-        // Two neighbours set, a data cell set, and a hole.
-        let bad = std::array::from_fn(|cell| cell < 3);
         for place in LARGE.tail() {
             for (maker, entry) in READERS.into_iter().chain(WRITERS) {
                 let page = with_byte(maker(&mut self.random, LARGE), place, self.random.byte_from(1));
                 let index = self.random.pick(&INDICES);
-                self.page_with(entry, &with_word(page, index, bad), 9);
+                self.page_with(entry, &with_word(page, index, never_sound()), 9);
             }
         }
     }
@@ -255,10 +252,9 @@ impl Script {
             for after in AFTER_A_PAGE {
                 let page = maker(&mut self.random, SMALL);
                 let page = resized_with(&mut self.random, page, LARGE.bytes, after);
-                let mut sound = page.clone();
-                sound[LARGE.tail()].fill(0);
                 self.page_with(entry, &page, 20);
-                self.page_with(entry, &sound, if entry == Entry::ReadFirst { LARGE.first_bytes } else { 20 });
+                let length = if entry == Entry::ReadFirst { LARGE.first_bytes } else { 20 };
+                self.page_with(entry, &with_sound_tail(page), length);
             }
         }
         for (maker, entry) in READERS {

@@ -34,18 +34,18 @@ impl Walk {
     /// Such pages, filled by either fill: they are measured; records up to the longest that fits, and one byte more, are
     /// written over them; and the outcomes are read back.
     fn both_fills(&mut self) {
-        for (turn, first) in self.firsts_with_open_words().iter().enumerate() {
-            for filled in FILLINGS.map(|fill| fill(first)) {
-                self.page_from(first, Entry::PageCapacity, &filled, 0);
-                self.records_over(first, &filled, turn);
+        for first in self.firsts_with_open_words() {
+            for filled in FILLINGS.map(|fill| fill(&first)) {
+                self.page_from(&first, Entry::PageCapacity, &filled, 0);
+                self.records_over(&first, &filled);
             }
         }
     }
 
     /// Records over the page that was filled from this first-round page.
-    fn records_over(&mut self, first: &[u8], filled: &[u8], turn: usize) {
+    fn records_over(&mut self, first: &[u8], filled: &[u8]) {
         let most = most_bytes(first);
-        for &length in self.some(&[most, 0, 1, 40, most - 1], turn) {
+        for length in [0, 1, 40, most - 1, most] {
             self.page_from(first, Entry::WriteSecond, filled, length);
             self.read_back(first, filled, length);
         }
@@ -103,12 +103,11 @@ impl Walk {
             let mut values = END_VALUES;
             values.rotate_left(turn);
             let first = first_page(&by_turns(self.shape, &values));
-            for (number, filled) in FILLINGS.map(|fill| fill(&first)).iter().enumerate() {
-                let records = [0, 40, most_bytes(&first)].map(|length| self.random.bytes(length));
-                let seconds = records.map(|record| written_over(filled.clone(), &record));
-                self.each_cell_45(filled, self.some(&Entry::OF_FILLED_PAGES, turn + number));
-                for second in self.some(&seconds, turn + number) {
-                    self.each_cell_45(second, &[Entry::ReadSecond]);
+            for filled in FILLINGS.map(|fill| fill(&first)) {
+                self.each_cell_45(&filled, &Entry::OF_FILLED_PAGES);
+                for length in [0, 40, most_bytes(&first)] {
+                    let second = written_over(filled.clone(), &self.random.bytes(length));
+                    self.each_cell_45(&second, &[Entry::ReadSecond]);
                 }
             }
         }

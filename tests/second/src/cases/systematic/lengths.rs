@@ -2,14 +2,10 @@
 
 use super::Walk;
 use crate::call::Entry;
-use crate::cases::files::{any_bytes, ones, zeros, Contents};
-use crate::cases::lengths::{resized, resized_with, FAR_RECORD_LENGTHS};
+use crate::cases::lengths::{resized, resized_with, AFTER_A_PAGE, FAR_RECORD_LENGTHS};
 use crate::cases::pages::*;
 use crate::cases::words::SPARSE_VALUE;
 use crate::shape::SMALL;
-
-/// What may follow a page of 256 bytes in a buffer of 512.
-const AFTER_A_PAGE: [Contents; 3] = [zeros, ones, any_bytes];
 
 impl Walk {
     pub fn pages_of_every_length(&mut self) {
@@ -109,9 +105,8 @@ impl Walk {
         for page in self.pages_of_the_other_size() {
             for &after in after {
                 let page = resized_with(&mut self.random, page.clone(), self.shape.bytes, after);
-                let mut sound = page.clone();
-                sound[self.shape.tail()].fill(0);
-                [page, sound].iter().for_each(|page| self.pages(&Entry::OF_PAGES, page));
+                self.pages(&Entry::OF_PAGES, &page);
+                self.pages(&Entry::OF_PAGES, &with_sound_tail(page));
             }
         }
     }

@@ -54,14 +54,9 @@ where
     occurs(entry, wanted, |call, answer| of_shape(call).then(|| class(call, answer)).into_iter().flatten());
 }
 
-/// Each of the entries with each shape that it takes.
-fn with_shapes(entries: &[Entry]) -> impl Iterator<Item = (Entry, Shape)> + '_ {
-    entries.iter().flat_map(|&entry| entry.shapes().iter().map(move |&shape| (entry, shape)))
-}
-
 /// Each page entry with each shape that it takes and each state that it asks for.
 fn asked() -> impl Iterator<Item = (Entry, Shape, u8)> {
-    with_shapes(&Entry::OF_PAGES)
+    Entry::with_shapes(&Entry::OF_PAGES)
         .flat_map(|(entry, shape)| entry.states().iter().map(move |&state| (entry, shape, state)))
 }
 
@@ -109,7 +104,7 @@ fn capacity_kind(filled: &[u8]) -> &'static str {
 
 #[test]
 fn the_number_of_calls() {
-    assert_eq!(answered().len(), 255_631);
+    assert_eq!(answered().len(), 291_851);
 }
 
 /// These calls alone meet every counter of a run but those of the other places of the buffers.
@@ -136,7 +131,7 @@ fn values_about_the_weight_of_cell_0() {
 
 #[test]
 fn every_state_byte() {
-    for (entry, shape) in with_shapes(&Entry::OF_PAGES) {
+    for (entry, shape) in Entry::with_shapes(&Entry::OF_PAGES) {
         occurs_on(shape, entry, 0..=255, |call, answer| sound_lengths(answer).then(|| call.page[0]));
     }
 }
@@ -206,9 +201,7 @@ fn every_byte_after_the_words() {
 
 /// The same call over the page with the bytes after the words at 0: its answer's number.
 fn number_without_tail(call: &Call) -> u8 {
-    let mut call = call.clone();
-    let tail = known_shape(&call.page).tail();
-    call.page[tail].fill(0);
+    let mut call = Call { page: with_sound_tail(call.page.clone()), ..call.clone() };
     number(call.perform())
 }
 
@@ -225,7 +218,7 @@ fn every_byte_after_the_words_with_another_reason() {
         let wanted = (509..512).flat_map(|place| (0..LARGE.words).map(move |index| (place, index)));
         occurs_on(shape, entry, wanted, |call, answer| match set_after_the_words(&call.page)[..] {
             [(place, _)] if call.page[0] == state && number(answer) == 6 => {
-                let bad = |cells: &Cells| *cells == NEVER_SOUND;
+                let bad = |cells: &Cells| *cells == never_sound();
                 words_of(&call.page).iter().position(bad).map(|index| (place, index))
             }
             _ => None,
@@ -254,25 +247,27 @@ fn several_bytes_after_the_words() {
 #[test]
 fn every_word_not_legal_for_each_reason() {
     let reason = |(index, cells): (usize, Cells)| (index, number(decode_word(number_of(&cells))));
-    for (entry, shape) in with_shapes(&Entry::OF_FIRST_PAGES) {
+    for (entry, shape) in Entry::with_shapes(&Entry::OF_FIRST_PAGES) {
         let wanted = (0..shape.words).flat_map(|index| [(index, 11), (index, 12)]);
         let first = |call: &Call| call.page[0] == FIRST_ROUND;
         occurs_on(shape, entry, wanted, |call, answer| refused_word(call, answer).filter(|_| first(call)).map(reason));
     }
 }
 
-/// On 512 bytes, every pair of neighbours in every word for some entry.
+/// The first pair of neighbours of a word.
+fn first_pair(cells: &Cells) -> Option<usize> {
+    (0..CELLS - 1).find(|&cell| cells[cell] && cells[cell + 1])
+}
+
+/// 7 names every word for two neighbours at its start, at its end, and in each byte that it reaches into.
 #[test]
-fn every_pair_of_neighbours_in_every_word() {
-    for shape in Shape::BOTH {
-        let named = answered().iter().filter(|(call, _)| call.page.len() == shape.bytes && call.page[0] == FIRST_ROUND);
-        let pairs = |(index, cells): (usize, Cells)| {
-            let both = move |&cell: &usize| cells[cell] && cells[cell + 1];
-            (0..CELLS - 1).filter(both).map(move |cell| (index, cell)).collect::<Vec<_>>()
-        };
-        let named = named.filter_map(|(call, answer)| refused_word(call, *answer)).map(pairs);
-        let met: HashSet<_> = named.flatten().collect();
-        assert_eq!(met.len(), shape.words * (CELLS - 1));
+fn pairs_of_neighbours_in_every_word() {
+    for (entry, shape) in Entry::with_shapes(&Entry::OF_FIRST_PAGES) {
+        let wanted = (0..shape.words).flat_map(|index| [0, 8, 16, 24, 32, 40, 44].map(|cell| (index, cell / 8)));
+        occurs_on(shape, entry, wanted, |call, answer| {
+            let named = refused_word(call, answer).filter(|_| call.page[0] == FIRST_ROUND);
+            named.and_then(|(index, cells)| first_pair(&cells).map(|cell| (index, cell / 8)))
+        });
     }
 }
 
@@ -308,7 +303,7 @@ fn every_word_of_a_filled_page_with_each_flaw() {
     let holes = ["start", "middle", "end", "everywhere", "hole and data"];
     let data = ["first data cell", "middle data cell", "last data cell", "full", "several data cells"];
     let flaws = holes.into_iter().chain(data);
-    for (entry, shape) in with_shapes(&Entry::OF_FILLED_PAGES) {
+    for (entry, shape) in Entry::with_shapes(&Entry::OF_FILLED_PAGES) {
         let wanted = flaws.clone().flat_map(|flaw| (0..shape.words).map(move |index| (index, flaw)));
         let reason = |(index, cells): (usize, Cells)| (index, flaw_of(&cells));
         let filled = |call: &Call| call.page[0] == FILLED;
@@ -326,7 +321,7 @@ fn flaws_of(page: &[u8]) -> Vec<(usize, bool)> {
 /// A hole before a set data cell, and after one: 7 names the lower word of every two neighbouring ones.
 #[test]
 fn two_flaws_of_different_kinds() {
-    for (entry, shape) in with_shapes(&Entry::OF_FILLED_PAGES) {
+    for (entry, shape) in Entry::with_shapes(&Entry::OF_FILLED_PAGES) {
         let wanted = (0..shape.words - 1).flat_map(|low| [(low, true, false), (low, false, true)]);
         occurs_on(shape, entry, wanted, |call, answer| {
             let filled = number(answer) == 7 && call.page[0] == FILLED;
@@ -349,23 +344,16 @@ fn single_flip(page: &[u8], base: &[u8]) -> Option<usize> {
     }
 }
 
-/// The filled page of 256 bytes that is walked through, and the page that the earlier fill left of the same first-round
-/// page.
-fn flipped_pages() -> (Vec<u8>, Vec<u8>) {
-    let first = Walk::new(SMALL).first;
-    (filled_page(&first), filled_page_earlier(&first))
-}
-
 /// Each bit of the page flipped by itself: the entries that take such a page look at each cell, the others at the
 /// state alone.
 #[test]
 fn every_cell_of_a_filled_page_flipped() {
-    let (base, _) = flipped_pages();
-    for entry in Entry::OF_FILLED_PAGES {
-        every_cell_flipped(entry, &base);
+    for (entry, shape) in Entry::with_shapes(&Entry::OF_FILLED_PAGES) {
+        every_cell_flipped(entry, &Walk::new(shape).filled);
     }
-    for entry in [Entry::FillPage, Entry::ReadSecond] {
-        occurs_on(SMALL, entry, 8..8 * SMALL.bytes, |call, answer| match number(answer) {
+    for (entry, shape) in Entry::with_shapes(&[Entry::FillPage, Entry::ReadSecond]) {
+        let base = Walk::new(shape).filled;
+        occurs_on(shape, entry, 8..8 * shape.bytes, |call, answer| match number(answer) {
             5 => single_flip(&call.page, &base),
             _ => None,
         });
@@ -374,35 +362,33 @@ fn every_cell_of_a_filled_page_flipped() {
 
 #[test]
 fn every_cell_of_a_page_of_the_earlier_fill_flipped() {
-    let (filled, base) = flipped_pages();
+    let Walk { first, filled, .. } = Walk::new(SMALL);
+    let base = filled_page_earlier(&first);
     assert_ne!(base, filled);
     for entry in Entry::OF_FILLED_PAGES {
         every_cell_flipped(entry, &base);
     }
 }
 
-/// Each bit of a valid page of each state flipped by itself, on 512 bytes for some entry that takes such a page.
+/// Each bit of a valid page of each state flipped by itself, for each entry that takes such a page.
 #[test]
 fn every_bit_of_a_page_of_each_state_flipped() {
-    for (shape, walk) in Shape::BOTH.map(|shape| (shape, Walk::new(shape))) {
-        for base in [walk.blank, walk.first, walk.filled, walk.second] {
-            let entries = Entry::taking(base[0], shape);
-            let of_base = |call: &Call| entries.contains(&call.entry) && call.page.len() == shape.bytes;
-            let flips = answered().iter().filter(|(call, _)| of_base(call));
-            let met: HashSet<usize> = flips.filter_map(|(call, _)| single_flip(&call.page, &base)).collect();
-            assert_eq!(met.len(), 8 * shape.bytes, "state {}", base[0]);
-        }
+    for (entry, shape, state) in asked() {
+        let bases = Walk::new(shape).bases();
+        let base = bases.iter().find(|base| base[0] == state).expect("a page of each state");
+        occurs_on(shape, entry, 0..8 * shape.bytes, |call, _| single_flip(&call.page, base));
     }
 }
 
 /// Each cell of the filled page flipped by itself is refused by 7, but cell 45 after a separator in cell 43, which is
 /// accepted. Of the latter there are some.
 fn every_cell_flipped(entry: Entry, base: &[u8]) {
-    let words = words_of(base);
+    let (shape, words) = (known_shape(base), words_of(base));
     let either = |bit: usize| (bit - 24) % CELLS == 45 && words[(bit - 24) / CELLS][43];
-    assert!((24..8 * SMALL.bytes).filter(|&bit| either(bit)).count() > 10);
-    let wanted = (24..8 * SMALL.bytes).map(|bit| (bit, if either(bit) { 0 } else { 7 }));
-    occurs_on(SMALL, entry, wanted, |call, answer| match number(answer) {
+    let cells = 24..24 + CELLS * shape.words;
+    assert!(cells.clone().filter(|&bit| either(bit)).count() > 10);
+    let wanted = cells.map(|bit| (bit, if either(bit) { 0 } else { 7 }));
+    occurs_on(shape, entry, wanted, |call, answer| match number(answer) {
         met @ (0 | 7) => single_flip(&call.page, base).map(|bit| (bit, met)),
         _ => None,
     });
@@ -420,7 +406,7 @@ fn accepted_ends(call: &Call, answer: Answer) -> Vec<(usize, Vec<usize>)> {
 #[test]
 fn every_word_with_each_end() {
     let ends = [&[42, 44][..], &[44], &[42, 45], &[43], &[43, 45]];
-    for (entry, shape) in with_shapes(&Entry::AFTER_THE_FILL) {
+    for (entry, shape) in Entry::with_shapes(&Entry::AFTER_THE_FILL) {
         let wanted = (0..shape.words).flat_map(|index| ends.map(|end| (index, end.to_vec())));
         occurs_on(shape, entry, wanted, accepted_ends);
     }
@@ -429,7 +415,7 @@ fn every_word_with_each_end() {
 /// 7 names every word that lacks cell 45 alone after a separator in cell 42: then cell 44 could be set.
 #[test]
 fn every_word_without_the_cell_45_that_it_needs() {
-    for (entry, shape) in with_shapes(&Entry::AFTER_THE_FILL) {
+    for (entry, shape) in Entry::with_shapes(&Entry::AFTER_THE_FILL) {
         occurs_on(shape, entry, 0..shape.words, |call, answer| {
             let lacks_it = |cells: Cells| well_formed(&std::array::from_fn(|cell| cells[cell] || cell == 45));
             let after_the_fill = call.page.first() > Some(&FIRST_ROUND);
@@ -444,7 +430,7 @@ fn every_word_without_the_cell_45_that_it_needs() {
 #[test]
 fn every_cell_45_that_is_a_data_cell() {
     let set = |cells: &Cells| read_back(cells).into_iter().filter(|&cell| cells[cell]).collect::<Vec<usize>>();
-    for (entry, shape) in with_shapes(&Entry::OF_FILLED_PAGES) {
+    for (entry, shape) in Entry::with_shapes(&Entry::OF_FILLED_PAGES) {
         occurs_on(shape, entry, 0..shape.words, |call, answer| {
             let filled = call.page[0] == FILLED;
             let named = refused_word(call, answer).filter(|(_, cells)| filled && set(cells) == [45]);
@@ -481,7 +467,7 @@ fn earlier_words(call: &Call, answer: Answer) -> Vec<usize> {
 /// Every word alone, and all of them, have a cell 45 that only the earlier fill set.
 #[test]
 fn every_word_of_the_earlier_fill() {
-    for (entry, shape) in with_shapes(&Entry::AFTER_THE_FILL) {
+    for (entry, shape) in Entry::with_shapes(&Entry::AFTER_THE_FILL) {
         let wanted = (0..shape.words).map(|index| vec![index]).chain([(0..shape.words).collect()]);
         occurs_on(shape, entry, wanted, |call, answer| Some(earlier_words(call, answer)));
     }
@@ -578,7 +564,7 @@ fn every_word_alone_with_pulses_and_alone_without() {
 /// Some cells are sound in each of these states: the state alone decides.
 #[test]
 fn every_state_over_cells_that_are_sound_in_each() {
-    for (entry, shape) in with_shapes(&Entry::OF_PAGES).filter(|(entry, _)| *entry != Entry::WriteFirst) {
+    for (entry, shape) in Entry::with_shapes(&Entry::OF_PAGES).filter(|(entry, _)| *entry != Entry::WriteFirst) {
         for value in ALIKE_VALUES {
             let cells = &page_of(shape, value)[1..];
             let wanted = (0..=255).map(|state| (state, if entry.states().contains(&state) { 0 } else { 5 }));
@@ -637,7 +623,7 @@ fn every_record_length_read_back() {
 
 #[test]
 fn every_output_length() {
-    for (entry, shape) in with_shapes(&[Entry::ReadFirst, Entry::ReadSecond]) {
+    for (entry, shape) in Entry::with_shapes(&[Entry::ReadFirst, Entry::ReadSecond]) {
         let wanted = 0..=shape.first_bytes + 4;
         occurs_on(shape, entry, wanted, |call, answer| output_counts(answer).then_some(call.other.len()));
     }
@@ -670,11 +656,11 @@ fn every_page_length_up_to_520() {
     }
 }
 
-/// What is made of a page of 256 bytes in a buffer of 512, after what follows it, and of one of 512 that is cut: for each
-/// state, whether it is followed by 256 zeros, whether bytes 509 to 511 are 0, and the answer.
+/// A page of 256 bytes in a buffer of 512: whether it is followed by 256 zeros, whether bytes 509 to 511 are 0, and the
+/// answer's number. And pages of 512 bytes that are cut.
 #[test]
 fn pages_of_the_other_size() {
-    let after = |page: &[u8]| page[256..] == [0; 256];
+    let before_zeros = |page: &[u8]| page[256..] == [0; 256];
     let sound_tail = |page: &[u8]| set_after_the_words(page).is_empty();
     for (entry, zeros, sound, answer) in [
         (Entry::WriteFirst, true, true, 0),
@@ -696,12 +682,14 @@ fn pages_of_the_other_size() {
     ] {
         occurs_on(LARGE, entry, [(zeros, sound, answer)], |call, answer| {
             let small = entry.states().contains(&call.page[0]) && is_page(&call.page[..256]);
-            small.then(|| (after(&call.page), sound_tail(&call.page), number(answer)))
+            small.then(|| (before_zeros(&call.page), sound_tail(&call.page), number(answer)))
         });
     }
-    let cut = answered().iter().filter(|(call, _)| call.entry == Entry::ReadSecond && call.page.len() == 256);
-    let met: HashSet<_> = cut.map(|(call, answer)| (call.page[1] > 126, number(*answer))).collect();
-    assert!(met.contains(&(true, 6)));
+    // The longest record over the page of 352 zero bytes, and one of 40 bytes.
+    let [long, short] = [253, 40].map(|length| second_page(&page_of(LARGE, 0), &vec![0; length])[..2].to_vec());
+    occurs_on(SMALL, Entry::ReadSecond, [(long, 6), (short, 0)], |call, answer| {
+        Some((call.page[..2].to_vec(), number(answer)))
+    });
 }
 
 /// Whether these 256 bytes are a valid page.
