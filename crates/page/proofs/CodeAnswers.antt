@@ -53,6 +53,26 @@ module _ (c : Code) (s : Shape) (P R : List ℕ) where
 
 -- ---- the reader
 
+module _ (c : Code) (s : Shape) (P : List ℕ) where
+  -- its length, state and header have passed
+  pub record-passed : SizedOf s P → state P ≡ c .into → badHeader (longest c s) (s .words) P ≡ false → RecordHeaderOf c s P
+  record-passed l e b = let h = header-tells (s .words) P (longest c s) .if-not b in (l, e, h .0, h .1 .0, h .1 .1)
+
+  -- ... and all words, bits and spare cells
+  pub second-passed : Bytes P → RecordHeaderOf c s P → AllJudgedOf c s P → 8 * recordLength P ≤ length (foundOf c s P) → spareOf c s P ≡ false
+      → SecondRoundOf c s P
+  second-passed b h w m z = record {
+    sized = h .0;
+    of-bytes = b;
+    in-state = h .1;
+    length-most = h .2;
+    byte2-zero = h .3;
+    tail-zero = h .4;
+    words-pass = w;
+    bits-enough = m;
+    spare-zero = z;
+  }
+
 module _ (c : Code) (same : (n : ℕ) (ws : List (List Bool)) → length (c .judged n ws) ≡ length ws) (s : Shape) (P out : List ℕ) where
   abbrev n : ℕ
   n = recordLength P
@@ -84,20 +104,7 @@ module _ (c : Code) (same : (n : ℕ) (ws : List (List Bool)) → length (c .jud
   second-parts : {X : Type 0} → Bytes P
       → (RecordHeaderOf c s P × (AllPass (c .passes) judged × (((8 * n ≤ length found) × (spareOf c s P ≡ false)) × X))) ↔ (SecondRoundOf c s P × X)
   second-parts b = (
-    λ h. (
-      record {
-        sized = h .0 .0;
-        of-bytes = b;
-        in-state = h .0 .1;
-        length-most = h .0 .2;
-        byte2-zero = h .0 .3;
-        tail-zero = h .0 .4;
-        words-pass = all-judged .0 (h .1 .0);
-        bits-enough = h .1 .1 .0 .0;
-        spare-zero = h .1 .1 .0 .1;
-      },
-      h .1 .1 .1,
-    ),
+    λ h. (second-passed c s P b (h .0) (all-judged .0 (h .1 .0)) (h .1 .1 .0 .0) (h .1 .1 .0 .1), h .1 .1 .1),
     λ h.
         let f = h .0 in
         ((f .sized, f .in-state, f .length-most, f .byte2-zero, f .tail-zero), (all-judged .1 (f .words-pass), ((f .bits-enough, f .spare-zero), h .1))),

@@ -16,7 +16,7 @@ use Rattle.answer.proofs.Tells.{Tells, unequal, just, later, taken, flat3, flat
 use Rattle.window.specs.Words.{pageWords}
 use Rattle.window.proofs.Words.{length-pageWords, getD-pageWords}
 use Rattle.rows.specs.declared.shape.Shape.{Shape}
-use Rattle.rows.specs.Page.{state, lowest, OpenOf}
+use Rattle.rows.specs.Page.{state, badHeader, lowest, OpenOf}
 use Rattle.rows.proofs.Headers.{empty-tells}
 use Rattle.rows.proofs.Lowest.{lowest-le, lowest-all, passed-before, failed-there}
 use Rattle.rows.proofs.Scanning.{Passed, scan-passed, all-passed}
@@ -130,6 +130,15 @@ module _ (n : ℕ) (test : List Bool → Bool) (P : List ℕ) where
 
 -- ---- all four, of a page in state k without a second record, then other checks
 
+module _ (k : ℕ) (s : Shape) (P : List ℕ) where
+  -- the first three have passed
+  pub header-passed : SizedOf s P → state P ≡ k → badHeader 0 (s .words) P ≡ false → HeaderOf k s P
+  header-passed l e b = let h = empty-tells (s .words) P .if-not b in (l, e, h .0, h .1 .0, h .1 .1)
+
+  -- ... and all words
+  pub opened : (test : List Bool → Bool) → Bytes P → HeaderOf k s P → Passed test P (s .words) → OpenOf k test s P
+  opened test b h w = record { sized = h .0; of-bytes = b; in-state = h .1; byte1-zero = h .2; byte2-zero = h .3; tail-zero = h .4; words-pass = w }
+
 module _ (k : ℕ) (test : List Bool → Bool) (s : Shape) (P : List ℕ) (cs : List Check) (x : ℕ) where
   -- the refusals that the operations on one state share
   pub state-refusals : (among 1 (numbers cs) ≡ false) × (among 5 (numbers cs) ≡ false) × (among 6 (numbers cs) ≡ false) × (among 7 (numbers cs) ≡ false)
@@ -148,15 +157,7 @@ module _ (k : ℕ) (test : List Bool → Bool) (s : Shape) (P : List ℕ) (cs : 
       let n = s .words in
       let l = length-pageWords P n in (
         λ h. (
-          record {
-            sized = h .0 .0;
-            of-bytes = b;
-            in-state = h .0 .1;
-            byte1-zero = h .0 .2;
-            byte2-zero = h .0 .3;
-            tail-zero = h .0 .4;
-            words-pass = λ i j. subst (λ (w : List Bool). T (test w)) (getD-pageWords P n i j) (h .1 .0 i (omega arith));
-          },
+          opened k s P test b (h .0) (λ i j. subst (λ (w : List Bool). T (test w)) (getD-pageWords P n i j) (h .1 .0 i (omega arith))),
           h .1 .1,
         ),
         λ h.

@@ -14,7 +14,7 @@ use Rattle.rows.proofs.Headers.{header-tells}
 use Rattle.rows.proofs.Shapes.{Sound, sound256, words-inside}
 use Rattle.page.specs.Terms.{RecordHeaderOf}
 use Rattle.page.proofs.Headed.{row-bad}
-use Rattle.page.proofs.CodeAnswers.{length-judged, read-held, read-1, read-5, read-6, read-7}
+use Rattle.page.proofs.CodeAnswers.{length-judged, record-passed, read-held, read-1, read-5, read-6, read-7}
 use Rattle.inspect.specs.Rows.{inspectCode}
 use Rattle.inspect.proofs.Rows.{length-unwalkedAll}
 use Rattle.inspect.proofs.read_inspect.Proof.Checks.{Found, all-found, inspect-ends, inspect-output, inspect-done, inspect-bytes}
@@ -72,8 +72,8 @@ headed : (c : tie.Else3) →
 headed c =
     let asked = c .before in
     let state = asked .before .before in
-    let h = header-tells _ _ _ .if-not (sym (asked .bad-header .ensures) ∙ c .if3 .left) in
-    (state .before .before .if1 .left, state .if2 .left, h .0, h .1 .0, h .1 .1)
+    let sized = state .before .before in
+    record-passed inspectCode (sized .before .before .small-page .result) _ (sized .if1 .left) (state .if2 .left) (sym (asked .bad-header .ensures) ∙ c .if3 .left)
 
 found-there : (c : tie.Else3) →
     let shaped = c .before .before .before .before .before .before .before in

@@ -15,7 +15,7 @@ use Rattle.rows.proofs.Headers.{header-tells}
 use Rattle.rows.proofs.Shapes.{Sound, sound-found, words-inside}
 use Rattle.page.specs.Terms.{RecordHeaderOf}
 use Rattle.page.proofs.Headed.{lowest-bad}
-use Rattle.page.proofs.CodeAnswers.{read-held, read-1, read-5, read-6, read-7}
+use Rattle.page.proofs.CodeAnswers.{record-passed, read-held, read-1, read-5, read-6, read-7}
 use Rattle.second.proofs.read_second.Proof.SecondChecks.{same-judged, Found, all-found, second-few, second-spare, second-output, second-done, second-record}
 use Rattle.second.proofs.read_second.Statement.{statement}
 use Rattle.second.proofs.read_second.Tie as tie
@@ -72,8 +72,8 @@ headed : (c : tie.Else3) →
 headed c =
     let asked = c .before in
     let state = asked .before .before in
-    let h = header-tells _ _ _ .if-not (sym (asked .bad-header .ensures) ∙ c .if3 .left) in
-    (state .before .before .if1 .left, state .if2 .left, h .0, h .1 .0, h .1 .1)
+    let sized = state .before .before in
+    record-passed fillCode (sized .before .before .shape-of .result) _ (sized .if1 .left) (state .if2 .left) (sym (asked .bad-header .ensures) ∙ c .if3 .left)
 
 -- what was found, from after the header on
 shaped-at : (c : tie.Else3) → Sound (c .before .before .before .before .before .before .before .shape-of .result)

@@ -13,7 +13,7 @@ use Rattle.rows.specs.Page.{stateFilled, readAll, FilledOf}
 use Rattle.rows.proofs.Headers.{empty-tells}
 use Rattle.rows.proofs.SecondWords.{read-most}
 use Rattle.page.specs.Terms.{HeaderOf}
-use Rattle.page.proofs.Headed.{lowest-bad, no-bad-word, all-words}
+use Rattle.page.proofs.Headed.{header-passed, opened, lowest-bad, no-bad-word, all-words}
 use Rattle.filled.specs.Answer.{roomFilled}
 use Rattle.filled.proofs.FilledAnswers.{check-filled-refusals, check-filled-taken}
 use Rattle.filled.proofs.check.check_filled.Statement.{statement}
@@ -43,8 +43,7 @@ headed : (c : tie.Else3) →
     HeaderOf stateFilled (a .s) (a .page .now)
 headed c =
     let e2 = c .before .before in
-    let h = empty-tells _ _ .if-not (sym (c .before .bad-header .ensures) ∙ c .if3 .left) in
-    (e2 .before .before .if1 .left, e2 .if2 .left, h .0, h .1 .0, h .1 .1)
+    header-passed _ (e2 .before .before .before .before .before .args .s) _ (e2 .before .before .if1 .left) (e2 .if2 .left) (sym (c .before .bad-header .ensures) ∙ c .if3 .left)
 
 count-filled-requires : tie.Need-count-filled-requires
 count-filled-requires c κs = search needs
@@ -66,22 +65,13 @@ passed : (c : tie.Else4) →
     FilledOf (a .s) (a .page .now) × (counted .count-filled .result .cells ≡ roomFilled (a .s) (a .page .now))
 passed c =
     let counted = c .before .before .before in
-    let h = headed (counted .before) in
     let b = counted .before .before .before .before .before .before .before in
     let a = b .before .args in
     let n = a .s .words in
     let P = a .page .now in
     let found = counted .count-filled .ensures in
     let w = no-bad-word n isFilled P _ (found .0) (c .if4 .left) in
-    let f : FilledOf (a .s) P = record {
-      sized = h .0;
-      of-bytes = λ j. omega (arith, b .shared-slice-known .given j);
-      in-state = h .1;
-      byte1-zero = h .2;
-      byte2-zero = h .3;
-      tail-zero = h .4;
-      words-pass = w;
-    } in
+    let f : FilledOf (a .s) P = opened _ _ _ isFilled (λ j. omega (arith, b .shared-slice-known .given j)) (headed (counted .before)) w in
     (f, found .1 ∙ ap (λ (k : ℕ). length (readAll (pageWords P k))) (found .0 ∙ all-words n isFilled P w))
 
 cast-t10 : tie.Need-cast-t10

@@ -16,7 +16,7 @@ use Rattle.rows.specs.Code.{foundOf, judgedOf, recordOf, AllJudgedOf, SecondRou
 use Rattle.rows.proofs.Lowest.{lowest-le, passed-before}
 use Rattle.page.specs.Terms.{RecordHeaderOf}
 use Rattle.page.specs.Answer.{readChecks}
-use Rattle.page.proofs.CodeAnswers.{length-judged, read-taken, read-3, read-9}
+use Rattle.page.proofs.CodeAnswers.{second-passed, length-judged, read-taken, read-3, read-9}
 use Rattle.inspect.specs.Rows.{inspectCode, readAllUpTo}
 use Rattle.inspect.proofs.Rows.{length-unwalkedAll}
 
@@ -53,17 +53,7 @@ module _ (s : Shape) (P out buffer : List ℕ) (n : ℕ) (f : Found s P buffer n
 
   module _ (k : 8 * byte1 P ≤ n) where
     inspect-round : SecondRoundOf inspectCode s P
-    inspect-round = record {
-      sized = f .header .0;
-      of-bytes = f .of-bytes;
-      in-state = f .header .1;
-      length-most = f .header .2;
-      byte2-zero = f .header .3;
-      tail-zero = f .header .4;
-      words-pass = f .all-legal;
-      bits-enough = omega (arith, f .counted);
-      spare-zero = refl;
-    }
+    inspect-round = second-passed inspectCode s P (f .of-bytes) (f .header) (f .all-legal) (omega (arith, f .counted)) refl
 
     pub inspect-output : length out < byte1 P → Answers (refusal 3 0)
     inspect-output o = read-3 inspectCode length-unwalkedAll s P out 0 (f .of-bytes) .1 (inspect-round, o, refl)

@@ -23,7 +23,7 @@ use Rattle.rows.proofs.SecondWords.{read-most}
 use Rattle.rows.proofs.Shapes.{Sound, words-inside}
 use Rattle.page.specs.Terms.{RecordHeaderOf}
 use Rattle.page.specs.Answer.{readChecks}
-use Rattle.page.proofs.CodeAnswers.{read-taken, read-3, read-9}
+use Rattle.page.proofs.CodeAnswers.{second-passed, read-taken, read-3, read-9}
 
 -- 7 judges the words as they stand
 pub same-judged : (n : ℕ) (ws : List (List Bool)) → length (fillCode .judged n ws) ≡ length ws
@@ -76,17 +76,7 @@ module _ (s : Shape) (P out buffer : List ℕ) (n : ℕ) (f : Found s P buffer n
 
     module _ (k : 8 * byte1 P ≤ n) (t : not b ≡ false) where
       second-round : SecondRoundOf fillCode s P
-      second-round = record {
-        sized = f .header .0;
-        of-bytes = f .of-bytes;
-        in-state = f .header .1;
-        length-most = f .header .2;
-        byte2-zero = f .header .3;
-        tail-zero = f .header .4;
-        words-pass = f .formed;
-        bits-enough = omega (arith, f .counted);
-        spare-zero = sym spare ∙ t;
-      }
+      second-round = second-passed fillCode s P (f .of-bytes) (f .header) (f .formed) (omega (arith, f .counted)) (sym spare ∙ t)
 
       pub second-output : length out < byte1 P → Answers (refusal 3 0)
       second-output o = read-3 fillCode same-judged s P out 0 (f .of-bytes) .1 (second-round, o, refl)
