@@ -16,10 +16,10 @@ use Rattle.answer.proofs.Tells.{Tells, less, itself, either, just, later, taken
 use Rattle.window.specs.Words.{pageWords}
 use Rattle.window.proofs.Words.{length-pageWords}
 use Rattle.rows.specs.declared.shape.Shape.{Shape}
-use Rattle.rows.specs.Page.{state, byte2, tail, recordLength, badHeader}
+use Rattle.rows.specs.Page.{shapeOf, state, tail, recordLength, badHeader}
 use Rattle.rows.specs.Code.{Code, longest, roomFor, writtenOf, foundOf, judgedOf, spareOf, recordOf, ReadyOf, AllJudgedOf, SecondRoundOf}
 use Rattle.rows.proofs.Headers.{header-tells}
-use Rattle.page.specs.Terms.{SizedOf, RecordHeaderOf, RestSetOf, LowestBad, RefusalsOf}
+use Rattle.page.specs.Terms.{SizedOf, RecordHeaderOf, TailSetOf, LowestBad, RefusalsOf}
 use Rattle.page.specs.Answer.{stateChecks, writeChecks, recordChecks, readChecks}
 use Rattle.page.proofs.Headed.{AllPass, headed-1, headed-5, headed-6, headed-later, headed-taken, word-7, word-later, word-taken, state-refusals, state-later, state-taken}
 
@@ -54,9 +54,13 @@ module _ (c : Code) (s : Shape) (P R : List ℕ) where
 -- ---- the reader
 
 module _ (c : Code) (s : Shape) (P : List ℕ) where
+  -- what 1, 5 and 6 ask for, together
+  record-whole : (SizedOf s P × (state P ≡ c .into) × ((recordLength P ≤ longest c s) × T (zeros (tail (s .words) P)))) ↔ RecordHeaderOf c s P
+  record-whole = (λ h. (h .0, h .1, h .2 .0, h .2 .1), λ h. (h .0, h .1, (h .2, h .3)))
+
   -- its length, state and header have passed
   pub record-passed : SizedOf s P → state P ≡ c .into → badHeader (longest c s) (s .words) P ≡ false → RecordHeaderOf c s P
-  record-passed l e b = let h = header-tells (s .words) P (longest c s) .if-not b in (l, e, h .0, h .1 .0, h .1 .1)
+  record-passed l e b = record-whole .0 (l, e, header-tells (s .words) P (longest c s) .if-not b)
 
   -- ... and all words, bits and spare cells
   pub second-passed : Bytes P → RecordHeaderOf c s P → AllJudgedOf c s P → 8 * recordLength P ≤ length (foundOf c s P) → spareOf c s P ≡ false
@@ -66,8 +70,7 @@ module _ (c : Code) (s : Shape) (P : List ℕ) where
     of-bytes = b;
     in-state = h .1;
     length-most = h .2;
-    byte2-zero = h .3;
-    tail-zero = h .4;
+    tail-zero = h .3;
     words-pass = w;
     bits-enough = m;
     spare-zero = z;
@@ -86,8 +89,8 @@ module _ (c : Code) (same : (n : ℕ) (ws : List (List Bool)) → length (c .jud
   pub length-judged : length judged ≡ s .words
   length-judged = same (8 * n) (pageWords P (s .words)) ∙ length-pageWords P (s .words)
 
-  header : Tells (badHeader (longest c s) (s .words) P) ((longest c s < n) ⊎ RestSetOf s P)
-      ((n ≤ longest c s) × ((byte2 P ≡ 0) × T (zeros (tail (s .words) P))))
+  header : Tells (badHeader (longest c s) (s .words) P) ((longest c s < n) ⊎ TailSetOf s P)
+      ((n ≤ longest c s) × T (zeros (tail (s .words) P)))
   header = header-tells (s .words) P (longest c s)
 
   too-few : Tells (ltb (length found) (8 * n) || spareOf c s P) ((length found < 8 * n) ⊎ T (spareOf c s P))
@@ -107,50 +110,50 @@ module _ (c : Code) (same : (n : ℕ) (ws : List (List Bool)) → length (c .jud
     λ h. (second-passed c s P b (h .0) (all-judged .0 (h .1 .0)) (h .1 .1 .0 .0) (h .1 .1 .0 .1), h .1 .1 .1),
     λ h.
         let f = h .0 in
-        ((f .sized, f .in-state, f .length-most, f .byte2-zero, f .tail-zero), (all-judged .1 (f .words-pass), ((f .bits-enough, f .spare-zero), h .1))),
+        ((f .sized, f .in-state, f .length-most, f .tail-zero), (all-judged .1 (f .words-pass), ((f .bits-enough, f .spare-zero), h .1))),
   )
 
   pub read-taken : (v : ℕ) → Bytes P → (answer (readChecks c s P out) n ≡ result v) ↔ (SecondRoundOf c s P × (n ≤ length out) × (v ≡ n))
   unfolding readChecks recordChecks
   read-taken v b =
       Iff·trans
-      (headed-taken s P (c .into) header _ n v (word-taken (c .passes) judged _ n v (taken too-few 9 0 _ n v (taken short 3 0 _ n v (nothing-left n v)))))
+      (headed-taken s P (c .into) header (record-whole c s P) _ n v (word-taken (c .passes) judged _ n v (taken too-few 9 0 _ n v (taken short 3 0 _ n v (nothing-left n v)))))
       (Iff·trans (second-parts b) flat3)
 
   pub read-1 : (i : ℕ) → (answer {A = ℕ} (readChecks c s P out) n ≡ refusal 1 i) ↔ (¬ SizedOf s P × (i ≡ 0))
   unfolding readChecks recordChecks numbers among
-  read-1 = headed-1 s P (c .into) header _ n refl
+  read-1 = headed-1 s P (c .into) header (record-whole c s P) _ n refl
 
   pub read-5 : (i : ℕ) → (answer {A = ℕ} (readChecks c s P out) n ≡ refusal 5 i) ↔ (SizedOf s P × ¬ (state P ≡ c .into) × (i ≡ 0))
   unfolding readChecks recordChecks numbers among
-  read-5 = headed-5 s P (c .into) header _ n refl
+  read-5 = headed-5 s P (c .into) header (record-whole c s P) _ n refl
 
   pub read-6 : (i : ℕ) → (answer {A = ℕ} (readChecks c s P out) n ≡ refusal 6 i)
-      ↔ (SizedOf s P × (state P ≡ c .into) × ((longest c s < n) ⊎ RestSetOf s P) × (i ≡ 0))
+      ↔ (SizedOf s P × (state P ≡ c .into) × ((longest c s < n) ⊎ TailSetOf s P) × (i ≡ 0))
   unfolding readChecks recordChecks numbers among
-  read-6 = headed-6 s P (c .into) header _ n refl
+  read-6 = headed-6 s P (c .into) header (record-whole c s P) _ n refl
 
   pub read-7 : (i : ℕ) → (answer {A = ℕ} (readChecks c s P out) n ≡ refusal 7 i) ↔ (RecordHeaderOf c s P × LowestBad (c .passes) judged i)
   unfolding readChecks recordChecks numbers among
-  read-7 i = headed-later s P (c .into) header _ n 7 i (omega arith) (word-7 (c .passes) judged _ n refl i)
+  read-7 i = headed-later s P (c .into) header (record-whole c s P) _ n 7 i (omega arith) (word-7 (c .passes) judged _ n refl i)
 
   pub read-9 : (i : ℕ) → (answer {A = ℕ} (readChecks c s P out) n ≡ refusal 9 i)
       ↔ (RecordHeaderOf c s P × AllJudgedOf c s P × ((length found < 8 * n) ⊎ T (spareOf c s P)) × (i ≡ 0))
   unfolding readChecks recordChecks numbers among
   read-9 i =
       Iff·trans
-      (headed-later s P (c .into) header _ n 9 i (omega arith) (word-later (c .passes) judged _ n 9 i (λ e. omega arith) (just too-few 9 0 _ n refl i)))
+      (headed-later s P (c .into) header (record-whole c s P) _ n 9 i (omega arith) (word-later (c .passes) judged _ n 9 i (λ e. omega arith) (just too-few 9 0 _ n refl i)))
       (λ h. (h .0, all-judged .0 (h .1 .0), h .1 .1 .0, h .1 .1 .1), λ h. (h .0, (all-judged .1 (h .1), (h .2, h .3))))
 
   pub read-3 : (i : ℕ) → Bytes P → (answer {A = ℕ} (readChecks c s P out) n ≡ refusal 3 i) ↔ (SecondRoundOf c s P × (length out < n) × (i ≡ 0))
   unfolding readChecks recordChecks numbers among
   read-3 i b =
       Iff·trans
-      (headed-later s P (c .into) header _ n 3 i (omega arith)
+      (headed-later s P (c .into) header (record-whole c s P) _ n 3 i (omega arith)
       (word-later (c .passes) judged _ n 3 i (λ e. omega arith) (later too-few 9 0 _ n 3 i (λ e. omega arith) (just short 3 0 _ n refl i))))
       (Iff·trans (second-parts b) flat3)
 
--- ---- what an operation gives by a shape that it found, and by the shape to which the code holds the page
+-- ---- what an operation gives by a shape that it found, and by the page's own
 
 -- the answer and what the page, or the output, holds afterwards are right by a shape
 abbrev pub WriteRight : Code → List ℕ → List ℕ → Answer → List ℕ → Shape → Type 0
@@ -161,8 +164,8 @@ ReadRight c P out a Q s =
     (a ≡ answer (readChecks c s P out) (recordLength P))
     × (Q ≡ after (answer (readChecks c s P out) (recordLength P)) out (atStart (recordOf c s P) out))
 
-pub write-held : (c : Code) (P R : List ℕ) (a : Answer) (Q : List ℕ) (s : Shape) → s ≡ c .shape P → WriteRight c P R a Q s → WriteRight c P R a Q (c .shape P)
+pub write-held : (c : Code) (P R : List ℕ) (a : Answer) (Q : List ℕ) (s : Shape) → s ≡ shapeOf P → WriteRight c P R a Q s → WriteRight c P R a Q (shapeOf P)
 write-held c P R a Q s e r = subst (WriteRight c P R a Q) e r
 
-pub read-held : (c : Code) (P out : List ℕ) (a : Answer) (Q : List ℕ) (s : Shape) → s ≡ c .shape P → ReadRight c P out a Q s → ReadRight c P out a Q (c .shape P)
+pub read-held : (c : Code) (P out : List ℕ) (a : Answer) (Q : List ℕ) (s : Shape) → s ≡ shapeOf P → ReadRight c P out a Q s → ReadRight c P out a Q (shapeOf P)
 read-held c P out a Q s e r = subst (ReadRight c P out a Q) e r

@@ -10,13 +10,13 @@ use native.Mathlib.Omega.{arith}
 use borrow.Author.Tests.{ltb-true, ltb-false}
 use lib.Dec.{T, eqb, ltb}
 use lib.ListN.{length, getD}
-use Rattle.cells.specs.Bytes.{Bytes}
+use Rattle.cells.specs.Bytes.{Bytes, zeros}
 use Rattle.answer.specs.Answer.{result, refusal, Check, refuse, answer, numbers, among}
 use Rattle.answer.proofs.Tells.{Tells, unequal, just, later, taken, flat3, flat4}
 use Rattle.window.specs.Words.{pageWords}
 use Rattle.window.proofs.Words.{length-pageWords, getD-pageWords}
 use Rattle.rows.specs.declared.shape.Shape.{Shape}
-use Rattle.rows.specs.Page.{state, badHeader, lowest, OpenOf}
+use Rattle.rows.specs.Page.{state, byte1, byte2, tail, badHeader, lowest, OpenOf}
 use Rattle.rows.proofs.Headers.{empty-tells}
 use Rattle.rows.proofs.Lowest.{lowest-le, lowest-all, passed-before, failed-there}
 use Rattle.rows.proofs.Scanning.{Passed, scan-passed, all-passed}
@@ -29,13 +29,14 @@ pub not-sized : (s : Shape) (P : List ℕ) → Tells (not (eqb (length P) (s .si
 not-sized s P = unequal (length P) (s .size)
 
 -- the conditions of these three, then another
-headed-parts : {A B C D E X : Type 0} → (A × (B × ((C × (D × E)) × X))) ↔ ((A × B × C × D × E) × X)
-headed-parts = (
-  λ h. ((h .0, h .1 .0, h .1 .1 .0 .0, h .1 .1 .0 .1 .0, h .1 .1 .0 .1 .1), h .1 .1 .1),
-  λ h. (h .0 .0, (h .0 .1, ((h .0 .2, (h .0 .3, h .0 .4)), h .1))),
+headed-parts : {A B C H X : Type 0} → (A × B × C) ↔ H → (A × (B × (C × X))) ↔ (H × X)
+headed-parts w = (
+  λ h. (w .0 (h .0, h .1 .0, h .1 .1 .0), h .1 .1 .1),
+  λ h. let g = w .1 (h .0) in (g .0, (g .1, (g .2, h .1))),
 )
 
-module _ (s : Shape) (P : List ℕ) (k : ℕ) {r : Bool} {E F G H : Type 0} (u : Tells r E (F × (G × H))) (cs : List Check) (x : ℕ) where
+module _ (s : Shape) (P : List ℕ) (k : ℕ) {r : Bool} {E F H : Type 0} (u : Tells r E F) (w : (SizedOf s P × (state P ≡ k) × F) ↔ H)
+    (cs : List Check) (x : ℕ) where
   other-state : Tells (not (eqb (state P) k)) (¬ (state P ≡ k)) (state P ≡ k)
   other-state = unequal (state P) k
 
@@ -60,18 +61,17 @@ module _ (s : Shape) (P : List ℕ) (k : ℕ) {r : Bool} {E F G H : Type 0} (u :
 
   -- a later number, and a result
   pub headed-later : {X : Type 0} (n i : ℕ) → ¬ (1 ≡ n) × ¬ (5 ≡ n) × ¬ (6 ≡ n) → (answer cs x ≡ refusal n i) ↔ X
-      → (answer headed x ≡ refusal n i) ↔ ((SizedOf s P × (state P ≡ k) × F × G × H) × X)
+      → (answer headed x ≡ refusal n i) ↔ (H × X)
   headed-later n i d e =
       Iff·trans
       (later (not-sized s P) 1 0 _ x n i (d .0) (later other-state 5 0 _ x n i (d .1) (later u 6 0 _ x n i (d .2) e)))
-      headed-parts
+      (headed-parts w)
 
-  pub headed-taken : {X : Type 0} (v : ℕ) → (answer cs x ≡ result v) ↔ X
-      → (answer headed x ≡ result v) ↔ ((SizedOf s P × (state P ≡ k) × F × G × H) × X)
+  pub headed-taken : {X : Type 0} (v : ℕ) → (answer cs x ≡ result v) ↔ X → (answer headed x ≡ result v) ↔ (H × X)
   headed-taken v e =
       Iff·trans
       (taken (not-sized s P) 1 0 _ x v (taken other-state 5 0 _ x v (taken u 6 0 _ x v e)))
-      headed-parts
+      (headed-parts w)
 
 -- ---- 7 by a test of the words of a row, then other checks
 
@@ -131,9 +131,13 @@ module _ (n : ℕ) (test : List Bool → Bool) (P : List ℕ) where
 -- ---- all four, of a page in state k without a second record, then other checks
 
 module _ (k : ℕ) (s : Shape) (P : List ℕ) where
-  -- the first three have passed
+  -- what the first three ask for, together
+  header-whole : (SizedOf s P × (state P ≡ k) × ((byte1 P ≡ 0) × ((byte2 P ≡ 0) × T (zeros (tail (s .words) P))))) ↔ HeaderOf k s P
+  header-whole = (λ h. (h .0, h .1, h .2 .0, h .2 .1 .0, h .2 .1 .1), λ h. (h .0, h .1, (h .2, (h .3, h .4))))
+
+  -- they have passed
   pub header-passed : SizedOf s P → state P ≡ k → badHeader 0 (s .words) P ≡ false → HeaderOf k s P
-  header-passed l e b = let h = empty-tells (s .words) P .if-not b in (l, e, h .0, h .1 .0, h .1 .1)
+  header-passed l e b = header-whole .0 (l, e, empty-tells (s .words) P .if-not b)
 
   -- ... and all words
   pub opened : (test : List Bool → Bool) → Bytes P → HeaderOf k s P → Passed test P (s .words) → OpenOf k test s P
@@ -145,10 +149,10 @@ module _ (k : ℕ) (test : List Bool → Bool) (s : Shape) (P : List ℕ) (cs : 
       → RefusalsOf k test s P (answer (stateChecks k test s P ++ cs) x)
   unfolding numbers among
   state-refusals f = record {
-    one = headed-1 s P k (empty-tells (s .words) P) _ x (f .0);
-    five = headed-5 s P k (empty-tells (s .words) P) _ x (f .1);
-    six = headed-6 s P k (empty-tells (s .words) P) _ x (f .2);
-    seven = λ i. headed-later s P k (empty-tells (s .words) P) _ x 7 i (omega arith) (word-7 test (words (s .words) test P) cs x (f .3) i);
+    one = headed-1 s P k (empty-tells (s .words) P) (header-whole k s P) _ x (f .0);
+    five = headed-5 s P k (empty-tells (s .words) P) (header-whole k s P) _ x (f .1);
+    six = headed-6 s P k (empty-tells (s .words) P) (header-whole k s P) _ x (f .2);
+    seven = λ i. headed-later s P k (empty-tells (s .words) P) (header-whole k s P) _ x 7 i (omega arith) (word-7 test (words (s .words) test P) cs x (f .3) i);
   }
 
   -- its length, header and words together
@@ -176,8 +180,8 @@ module _ (k : ℕ) (test : List Bool → Bool) (s : Shape) (P : List ℕ) (cs : 
   pub state-later : {X : Type 0} (n i : ℕ) → Bytes P → ¬ (1 ≡ n) × ¬ (5 ≡ n) × ¬ (6 ≡ n) × ¬ (7 ≡ n) → (answer cs x ≡ refusal n i) ↔ X
       → (answer (stateChecks k test s P ++ cs) x ≡ refusal n i) ↔ (OpenOf k test s P × X)
   state-later n i b d e =
-      Iff·trans (headed-later s P k (empty-tells (s .words) P) _ x n i (d .0, d .1, d .2) (word-later test (words (s .words) test P) cs x n i (d .3) e)) (open-parts b)
+      Iff·trans (headed-later s P k (empty-tells (s .words) P) (header-whole k s P) _ x n i (d .0, d .1, d .2) (word-later test (words (s .words) test P) cs x n i (d .3) e)) (open-parts b)
 
   pub state-taken : {X : Type 0} (v : ℕ) → Bytes P → (answer cs x ≡ result v) ↔ X
       → (answer (stateChecks k test s P ++ cs) x ≡ result v) ↔ (OpenOf k test s P × X)
-  state-taken v b e = Iff·trans (headed-taken s P k (empty-tells (s .words) P) _ x v (word-taken test (words (s .words) test P) cs x v e)) (open-parts b)
+  state-taken v b e = Iff·trans (headed-taken s P k (empty-tells (s .words) P) (header-whole k s P) _ x v (word-taken test (words (s .words) test P) cs x v e)) (open-parts b)

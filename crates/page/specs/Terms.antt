@@ -23,11 +23,15 @@ HeaderOf k s P = SizedOf s P × (state P ≡ k) × (byte1 P ≡ 0) × (byte2 P �
 
 -- ... and as on a page with a second record by a code
 abbrev pub RecordHeaderOf : Code → Shape → List ℕ → Type 0
-RecordHeaderOf c s P = SizedOf s P × (state P ≡ c .into) × (recordLength P ≤ longest c s) × (byte2 P ≡ 0) × T (zeros (tail (s .words) P))
+RecordHeaderOf c s P = SizedOf s P × (state P ≡ c .into) × (recordLength P ≤ longest c s) × T (zeros (tail (s .words) P))
+
+-- a byte after the words is not 0
+abbrev pub TailSetOf : Shape → List ℕ → Type 0
+TailSetOf s P = zeros (tail (s .words) P) ≡ false
 
 -- byte 2 or a byte after the words is not 0
 abbrev pub RestSetOf : Shape → List ℕ → Type 0
-RestSetOf s P = ¬ (byte2 P ≡ 0) ⊎ (zeros (tail (s .words) P) ≡ false)
+RestSetOf s P = ¬ (byte2 P ≡ 0) ⊎ TailSetOf s P
 
 -- word i of a row does not pass a test, and every word before it does
 abbrev pub LowestBad : (List Bool → Bool) → List (List Bool) → ℕ → Type 0

@@ -12,11 +12,9 @@ use Rattle.cells.specs.Bytes.{bits, bytes, Bytes, zeros}
 use Rattle.window.specs.Words.{pageWords, putWords}
 use Rattle.word.specs.Fill.{wellFormed, isFilled}
 use Rattle.rows.specs.declared.shape.Shape.{Shape}
-use Rattle.rows.specs.Page.{shapeOf, state, byte2, tail, stateFilled, stateSecond, recordLength, withHeader, fillAll, readAll, putAll, OpenOf}
+use Rattle.rows.specs.Page.{state, tail, stateFilled, stateSecond, recordLength, withHeader, fillAll, readAll, putAll, OpenOf}
 
 pub record Code : Type 0 where
-  -- the shape that it holds a page to
-  pub shape : List ℕ → Shape
   -- the state of the page that its writer takes, and the test of that page's words
   pub over : ℕ
   pub takes : List Bool → Bool
@@ -40,7 +38,6 @@ pub record Code : Type 0 where
 -- the fill code: a filled page takes the record's bits in its data cells, and leaves the spare ones 0
 abbrev pub fillCode : Code
 fillCode = record {
-  shape = shapeOf;
   over = stateFilled;
   takes = isFilled;
   prepare = fillAll;
@@ -57,11 +54,12 @@ fillCode = record {
 
 -- ---- the figures of a code on a page
 
--- the bytes of the longest record that byte 1 may tell: by the fill code 126, and 253 of 512 bytes
+-- "the limit of that code and page", the bytes of the longest record: by the fill code 126, and 253 of 512 bytes; by the Inspect code 247 and
+-- 495
 abbrev pub longest : Code → Shape → ℕ
 longest c s = c .most * s .words / 8
 
--- the bytes of the record that is sure to fit: by the fill code 82, and 165 of 512 bytes
+-- the bytes of the record that is sure to fit: by the fill code 82, and 165 of 512 bytes; by the Inspect code 126 and 253
 abbrev pub sure : Code → Shape → ℕ
 sure c s = c .least * s .words / 8
 
@@ -81,7 +79,7 @@ writtenOf c s page bs = putWords (withHeader (c .into) (length bs) page) (c .put
 
 -- the term "outcome": every byte of a first-round page after a record was written over it by the code's own writing. By the fill code: "fills
 -- all 44 words, puts the record's bits (highest bit of each byte first) in the data cells, leaves the spare data cells 0, and writes byte 1 and
--- state 07"
+-- state 07", now byte 2 too
 unfoldable pub outcomeOf : Code → Shape → List ℕ → List ℕ → List ℕ
 outcomeOf c s page bs = putWords (withHeader (c .into) (length bs) page) (c .put (c .prepare (pageWords page (s .words))) (bits bs))
 
@@ -116,14 +114,13 @@ pub record FitsOf (c : Code) (s : Shape) (bs page : List ℕ) : Type 0 where
 abbrev pub AllJudgedOf : Code → Shape → List ℕ → Type 0
 AllJudgedOf c s page = (j : ℕ) → j < s .words → T (c .passes (getD (judgedOf c s page) j []))
 
--- a page that a code's reader accepts, given output enough (document 01 has no term for it): its state, a length that the code allows, byte 2
--- and the bytes after the words at 0, all judged words pass, bits enough for the record, and no spare data cell set
+-- a page that a code's reader accepts, given output enough (document 01 has no term for it): its state, a length that the code allows, the bytes
+-- after the words at 0, all judged words pass, bits enough for the record, and no spare data cell set
 pub record SecondRoundOf (c : Code) (s : Shape) (page : List ℕ) : Type 0 where
   pub sized : length page ≡ s .size
   pub of-bytes : Bytes page
   pub in-state : state page ≡ c .into
   pub length-most : recordLength page ≤ longest c s
-  pub byte2-zero : byte2 page ≡ 0
   pub tail-zero : T (zeros (tail (s .words) page))
   pub words-pass : AllJudgedOf c s page
   pub bits-enough : 8 * recordLength page ≤ length (foundOf c s page)

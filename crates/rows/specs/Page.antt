@@ -1,10 +1,10 @@
--- The page (document 01, the section of that name, and document 02, Change 8). A page is its list of bytes. The definitions are over a shape
+-- The page (document 01, the section of that name, and document 02, Changes 8 and 9). A page is its list of bytes. The definitions are over a shape
 -- of page, or over what of it they need; document 01's page is the shape `page256`, the new chip's larger page `page512`.
 -- Assumes nothing.
 use mathlib.Core.Bool.{Bool, cond, not, _&&_, _||_}
 use mathlib.Core.List.{List, [], _∷_, _++_}
 use mathlib.Core.Path.{_≡_}
-use Prim.Native.Nat.{ℕ, zero, suc, _+_, _*_, _/_, _<_}
+use Prim.Native.Nat.{ℕ, zero, suc, _+_, _*_, _/_, _%_, _<_}
 use lib.Dec.{T, eqb, ltb}
 use lib.ListN.{length, take, drop, getD, replicate}
 use Rattle.cells.specs.Cells.{number}
@@ -62,23 +62,22 @@ stateSecond = 7
 abbrev pub stateInspect : ℕ
 stateInspect = 9
 
--- "Byte 1 is the second record's length in bytes"
+-- the second record's length in bytes: "two bytes, byte 1 low and byte 2 high"
 abbrev pub recordLength : List ℕ → ℕ
-recordLength page = byte1 page
+recordLength page = byte1 page + 256 * byte2 page
 
 -- the bytes after a page's n words, which follow its first three: none of 256 bytes, "bytes 509 to 511" of 512
 abbrev pub tail : ℕ → List ℕ → List ℕ
 tail n page = drop (3 + 46 * n / 8) page
 
--- refusal 6, in every state that has one, of a page of n words whose second record has at most so many bytes: the length is above that, or byte
--- 2 is not 0, or a byte after the words is not ("6 covers bytes 509 to 511"). Without a second record it has at most 0: "6 if byte 1 or byte 2
--- is not 0"
+-- refusal 6, in every state that has one, of a page of n words whose second record has at most so many bytes: "a length above the limit" or a
+-- byte after the words that is not 0 ("one of bytes 509 to 511 not 0"). Without a second record the limit is 0: "6 if byte 1 or byte 2 is not 0"
 unfoldable pub badHeader : ℕ → ℕ → List ℕ → Bool
-badHeader most n page = ltb most (recordLength page) || (not (eqb (byte2 page) 0) || not (zeros (tail n page)))
+badHeader most n page = ltb most (recordLength page) || not (zeros (tail n page))
 
 -- a page with its state and its record's length put, every other byte kept
 abbrev pub withHeader : ℕ → ℕ → List ℕ → List ℕ
-withHeader k n page = k ∷ n ∷ drop 2 page
+withHeader k n page = k ∷ n % 256 ∷ n / 256 ∷ drop 3 page
 
 -- a blank page: so many bytes, and all of them 0
 unfoldable pub isBlank : ℕ → List ℕ → Bool

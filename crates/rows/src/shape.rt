@@ -1,9 +1,9 @@
-// The shape of a page, found from its length, and the bytes of a page that are neither its state nor in its words.
+// The shape of a page, found from its length, and the bytes of a page that are not in its words.
 ghost use mathlib.Core.Path.{_≡_};
 ghost use Prim.Native.Nat.{_^_, _≤_, _<_};
 ghost use lib.ListN.{length};
 ghost use Rattle.cells.specs.Bytes.{zeros};
-ghost use Rattle.rows.specs.Page.{page256, shapeFor, tail, badHeader};
+ghost use Rattle.rows.specs.Page.{page256, shapeFor, recordLength, tail, badHeader, withHeader};
 
 // A shape of page: its size in bytes, the number of its words, and the bytes of its first record. The definitions use this very record.
 pub struct Shape {
@@ -53,15 +53,30 @@ fn tail_zero(page: &[u8], n: usize) -> bool
     true
 }
 
+// The length of a page's second record: byte 1 low, byte 2 high.
+pub fn record_length(page: &[u8]) -> usize
+    requires { ⌜ 3 ≤ length (now page) ⌝ }
+    ensures { λ r. ⌜ r ≡ recordLength (now (page .entry)) ⌝ }
+{
+    page[1] as usize + 256 * (page[2] as usize)
+}
+
+// Puts a page's state and the length of its second record.
+pub fn put_header(page: &mut [u8], state: u8, n: usize)
+    requires { ⌜ (3 ≤ length (now page)) × (n < 2 ^ 16) ⌝ }
+    ensures { λ _. ⌜ now (page .exit) ≡ withHeader state n (now (page .entry)) ⌝ }
+{
+    page[0] = state;
+    page[1] = (n % 256) as u8;
+    page[2] = (n / 256) as u8;
+}
+
 // Refusal 6 of a page of n words with a second record of at most `most` bytes; without one, `most` is 0.
 pub fn bad_header(page: &[u8], n: usize, most: usize) -> bool
     requires { ⌜ (3 ≤ length (now page)) × (n < 2 ^ 16) ⌝ }
     ensures { λ r. ⌜ r ≡ badHeader most n (now (page .entry)) ⌝ }
 {
-    if most < page[1] as usize {
-        return true;
-    }
-    if page[2] != 0 {
+    if most < record_length(page) {
         return true;
     }
     !tail_zero(page, n)

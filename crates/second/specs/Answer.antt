@@ -16,12 +16,13 @@ use Rattle.second.specs.declared.SecondRead.the-variants as secondRead
 abbrev pub writeSecondAnswer : List ℕ → List ℕ → Answer
 writeSecondAnswer page bs = writeAnswer fillCode page bs
 
--- "Writing puts a record over a state 03 page and gives state 07."
+-- "Writing puts a record over a state 03 page and gives state 07." Its length is "two bytes, byte 1 low and byte 2 high"
 abbrev pub writeSecondLeaves : List ℕ → List ℕ → List ℕ
 writeSecondLeaves page bs = writeLeaves fillCode page bs
 
--- "Refuses 1, then 5 if the state is not 07, 6 if byte 1 exceeds 126 or byte 2 is not 0, 7 with the lowest index of a word not well formed, 9
--- if 8 times byte 1 exceeds the number of data cells or a spare data cell is 1, 3 if the output is shorter than the record"
+-- "Refuses 1, then 5 if the state is not 07", 6 for "a length above the limit of that code and page", 126 or 253, "or on 512 bytes one of bytes 509
+-- to 511 not 0", "7 with the lowest index of a word not well formed, 9 if 8 times" the length "exceeds the number of data cells or a spare data cell
+-- is 1, 3 if the output is shorter than the record"
 abbrev pub readSecondAnswer : List ℕ → List ℕ → Answer
 readSecondAnswer page out = readAnswer fillCode page out
 

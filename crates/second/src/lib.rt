@@ -9,6 +9,8 @@ use filled::check::check_filled;
 use rows::STATE_SECOND;
 use rows::second_round;
 use rows::shape::bad_header;
+use rows::shape::put_header;
+use rows::shape::record_length;
 use rows::shape::shape_of;
 ghost use mathlib.Core.Path.{_≡_};
 ghost use Rattle.second.specs.Answer.{writeSecondAnswer, writeSecondLeaves, readSecondAnswer, readSecondLeaves, secondWrittenCode, secondReadCode};
@@ -47,8 +49,7 @@ pub fn write_second(page: &mut [u8], second: &[u8]) -> SecondWritten
             if ((room / 8) as usize) < second.len() {
                 return SecondWritten::RecordLength(room);
             }
-            page[0] = STATE_SECOND;
-            page[1] = second.len() as u8;
+            put_header(page, STATE_SECOND, second.len());
             second_round::put_record(page, second, s.words);
             SecondWritten::Done
         }
@@ -80,7 +81,7 @@ pub fn read_second(page: &[u8], out: &mut [u8]) -> SecondRead
     if found.words < s.words {
         return SecondRead::Word(found.words as u32);
     }
-    let n = page[1] as usize;
+    let n = record_length(page);
     if found.cells < 8 * n {
         return SecondRead::DataCells;
     }

@@ -9,7 +9,6 @@ use borrow.Author.Needs.{needs}
 use Rattle.cells.specs.Bytes.{atStart}
 use Rattle.answer.proofs.Chains.{both-refused, both-done}
 use Rattle.word.specs.Fill.{wellFormed}
-use Rattle.rows.specs.Page.{recordLength}
 use Rattle.rows.specs.Code.{fillCode}
 use Rattle.rows.proofs.Headers.{header-tells}
 use Rattle.rows.proofs.Shapes.{Sound, sound-found, words-inside}
@@ -117,49 +116,48 @@ all c =
 sound-there : (c : tie.Else4) → Sound (c .before .before .before .before .before .before .before .before .before .before .before .before .before .shape-of .result)
 sound-there c = shaped-at (c .before .before .before .before .before .before)
 
-length-small : (c : tie.Else4) →
-    let a = c .before .before .before .before .before .before .before .before .before .before .before .before .before .before .before .before .args in
-    recordLength (a .page .now) ≤ 253
-length-small c = omega (arith, all c .header .2, sound-there c .few)
+record-length-requires : tie.Need-record-length-requires
+record-length-requires c κs = omega (arith, all c .header .0, sound-there c .inside)
 
-shared-slice-read-n : tie.Need-shared-slice-read-n
-shared-slice-read-n c = omega (arith, all (c .before) .header .0, sound-there (c .before) .inside)
-
-cast-n : tie.Need-cast-n
-cast-n c = omega (arith, length-small (c .before))
+-- the record's length
+length-small : (c : tie.After-record-length) → c .record-length .result ≤ 253
+length-small c = omega (arith, c .record-length .ensures, all (c .before) .header .2, sound-there (c .before) .few)
 
 mul-if5 : tie.Need-mul-if5
-mul-if5 c = omega (arith, length-small (c .before))
+mul-if5 c = omega (arith, length-small c)
 
 returns-5 : tie.Need-returns-5
 returns-5 c =
-    let four = c .before .before .before in
+    let told = c .before .before in
+    let four = told .before in
     read-held fillCode _ _ _ _ _ (four .before .before .before .before .before .before .before .before .before .before .before .before .before .shape-of .ensures)
-    (both-refused _ _ _ _ _ (second-few _ _ _ _ _ (all four) (c .if5 .taken)))
+    (both-refused _ _ _ _ _ (second-few _ _ _ _ _ (all four) _ (told .record-length .ensures) (c .if5 .taken)))
 
 slice-aggregate-zero-from : tie.Need-slice-aggregate-zero-from
 slice-aggregate-zero-from c = search needs
 
 zero-from-requires : tie.Need-zero-from-requires
-zero-from-requires c κs = (omega (arith, length-small (c .before .before .before .before)), omega arith)
+zero-from-requires c κs = (omega (arith, length-small (c .before .before .before)), omega arith)
 
 returns-6 : tie.Need-returns-6
 returns-6 c =
     let tested = c .before in
     let enough = tested .before .before in
-    let four = enough .before .before .before in
+    let told = enough .before .before in
+    let four = told .before in
     read-held fillCode _ _ _ _ _ (four .before .before .before .before .before .before .before .before .before .before .before .before .before .shape-of .ensures)
-    (both-refused _ _ _ _ _ (second-spare _ _ _ _ _ (all four) (sound-there four) _ (tested .zero-from .ensures) (c .if6 .taken)))
+    (both-refused _ _ _ _ _ (second-spare _ _ _ _ _ (all four) _ (told .record-length .ensures) (sound-there four) _ (tested .zero-from .ensures) (c .if6 .taken)))
 
 returns-7 : tie.Need-returns-7
 returns-7 c =
     let clean = c .before in
     let tested = clean .before in
     let enough = tested .before .before in
-    let four = enough .before .before .before in
+    let told = enough .before .before in
+    let four = told .before in
     read-held fillCode _ _ _ _ _ (four .before .before .before .before .before .before .before .before .before .before .before .before .before .shape-of .ensures)
     (both-refused _ _ _ _ _
-    (second-output _ _ _ _ _ (all four) (sound-there four) _ (tested .zero-from .ensures) (enough .if5 .left) (clean .if6 .left) (c .if7 .taken)))
+    (second-output _ _ _ _ _ (all four) _ (told .record-length .ensures) (sound-there four) _ (tested .zero-from .ensures) (enough .if5 .left) (clean .if6 .left) (c .if7 .taken)))
 
 slice-aggregate-copy-start : tie.Need-slice-aggregate-copy-start
 slice-aggregate-copy-start c = search needs
@@ -167,10 +165,10 @@ slice-aggregate-copy-start c = search needs
 copy-start-requires : tie.Need-copy-start-requires
 copy-start-requires c κs =
     let roomy = c .before .before in
-    (roomy .if7 .left, omega (arith, length-small (roomy .before .before .before .before .before .before .before)))
+    (roomy .if7 .left, omega (arith, length-small (roomy .before .before .before .before .before .before)))
 
-cast-t25 : tie.Need-cast-t25
-cast-t25 c = omega (arith, length-small (c .before .before .before .before .before .before .before .before .before .before .before .before))
+cast-t24 : tie.Need-cast-t24
+cast-t24 c = omega (arith, length-small (c .before .before .before .before .before .before .before .before .before .before .before))
 
 same-length : tie.Need-same-length
 same-length c = search needs
@@ -182,14 +180,15 @@ returns-8 c =
     let clean = roomy .before in
     let tested = clean .before in
     let enough = tested .before .before in
-    let four = enough .before .before .before in
+    let told = enough .before .before in
+    let four = told .before in
     let shaped = four .before .before .before .before .before .before .before .before .before .before .before .before .before in
     let a = shaped .before .before .before .args in
     read-held fillCode _ _ _ _ _ (shaped .shape-of .ensures)
     (both-done _ _ _ _ _
-    (second-done _ _ _ _ _ (all four) (sound-there four) _ (tested .zero-from .ensures) (enough .if5 .left) (clean .if6 .left) (roomy .if7 .left))
+    (second-done _ _ _ _ _ (all four) _ (told .record-length .ensures) (sound-there four) _ (tested .zero-from .ensures) (enough .if5 .left) (clean .if6 .left) (roomy .if7 .left))
     (copy .copy-start .ensures
-    ∙ ap (λ (l : List ℕ). atStart l (a .out .now)) (second-record _ _ (a .out .now) _ _ (all four) (sound-there four) (enough .if5 .left))))
+    ∙ ap (λ (l : List ℕ). atStart l (a .out .now)) (second-record _ _ (a .out .now) _ _ (all four) _ (told .record-length .ensures) (sound-there four) (enough .if5 .left))))
 
 pub read-second-spec : {M : Type 1} → statement M
 read-second-spec =
@@ -206,8 +205,7 @@ read-second-spec =
     gather-requires
     cast-t15
     returns-4
-    shared-slice-read-n
-    cast-n
+    record-length-requires
     mul-if5
     returns-5
     slice-aggregate-zero-from
@@ -216,6 +214,6 @@ read-second-spec =
     returns-7
     slice-aggregate-copy-start
     copy-start-requires
-    cast-t25
+    cast-t24
     same-length
     returns-8)

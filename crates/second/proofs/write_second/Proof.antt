@@ -3,24 +3,26 @@
 -- Assumes nothing.
 mod Headers
 use mathlib.Core.List.{List}
-use mathlib.Core.Path.{_≡_, refl, sym, ap, _∙_}
-use Prim.Native.Nat.{ℕ}
+use mathlib.Core.Path.{_≡_, sym, ap, _∙_}
+use Prim.Native.Nat.{ℕ, _≤_}
 use native.Mathlib.Omega.{arith}
 use borrow.Author.Needs.{needs}
-use lib.ListN.{length, length-set}
+use lib.ListN.{length}
 use Rattle.answer.specs.Answer.{Answer, refusal, answer}
 use Rattle.answer.proofs.Chains.{both-refused, both-done}
+use Rattle.window.specs.Words.{pageWords}
 use Rattle.window.proofs.Words.{length-putWords}
 use Rattle.word.specs.Fill.{isFilled}
 use Rattle.rows.specs.declared.shape.Shape.{Shape}
-use Rattle.rows.specs.Page.{shapeOf, lowest, FilledOf}
+use Rattle.rows.specs.Page.{shapeOf, stateSecond, withHeader, lowest, FilledOf}
 use Rattle.rows.specs.Code.{fillCode}
+use Rattle.rows.proofs.Headers.{header-length, header-words}
 use Rattle.rows.proofs.Shapes.{Sound, sound-found, words-inside}
 use Rattle.page.proofs.Headed.{all-words}
 use Rattle.page.proofs.CodeAnswers.{WriteRight, write-held, write-refused}
 use Rattle.filled.specs.Answer.{filledChecks, roomFilled, filledCheckCode}
 use Rattle.filled.proofs.FilledAnswers.{check-filled-taken}
-use Rattle.second.proofs.write_second.Proof.Headers.{header-length, header-words, room-small, second-set, write-long, write-done}
+use Rattle.second.proofs.write_second.Proof.Headers.{second-put, room-small, write-long, write-done}
 use Rattle.second.proofs.write_second.Statement.{statement}
 use Rattle.second.proofs.write_second.Tie as tie
 
@@ -66,26 +68,43 @@ returns c =
     write-held fillCode _ _ _ _ _ (told .before .before .before .before .before .shape-of .ensures)
     (both-refused _ _ _ _ _ (write-long _ _ _ (p .0) _ (p .1) (c .if1 .taken)))
 
-slice-write-page : tie.Need-slice-write-page
-slice-write-page c = omega (arith, passed (c .before) .0 .sized, found (c .before .before .before .before .before .before) .inside)
+-- it has three bytes
+headed : (c : tie.After-known-told) → 3 ≤ length (c .before .before .before .before .before .before .before .before .args .page .now)
+headed c = omega (arith, passed c .0 .sized, found (c .before .before .before .before .before) .inside)
 
-cast-page : tie.Need-cast-page
-cast-page c =
-    let p = passed (c .before) in
-    let shaped = c .before .before .before .before .before .before in
-    omega (arith, room-small _ _ (shaped .before .before .before .args .second .now) (p .0) _ (p .1) (found shaped))
+put-header-requires : tie.Need-put-header-requires
+put-header-requires c κs =
+    let fits = c .before in
+    let told = fits .before in
+    let p = passed told in
+    let shaped = told .before .before .before .before .before in
+    (headed told, omega (arith, fits .if1 .left, room-small _ _ (shaped .before .before .before .args .second .now) (p .0) _ (p .1) (found shaped)))
 
-slice-write-page-2 : tie.Need-slice-write-page-2
-slice-write-page-2 c =
-    rw length-set (omega (arith, passed (c .before) .0 .sized, found (c .before .before .before .before .before .before) .inside))
+-- the page after its header was put
+put : (c : tie.After-put-header) →
+    let a = c .before .before .before .before .before .before .before .before .before .before .before .args in
+    c .put-header .last .0 ≡ withHeader stateSecond (length (a .second .now)) (a .page .now)
+put c = c .put-header .ensures
+
+-- ... is as long
+put-length : (c : tie.After-put-header) →
+    length (c .put-header .last .0) ≡ length (c .before .before .before .before .before .before .before .before .before .before .before .args .page .now)
+put-length c =
+    let told = c .before .before .before in
+    let a = told .before .before .before .before .before .before .before .before .args in
+    ap length (put c) ∙ header-length (a .page .now) (headed told) stateSecond (length (a .second .now))
 
 put-record-requires : tie.Need-put-record-requires
 put-record-requires c κs =
-    let told = c .before .before in
+    let header = c .before .before .before in
+    let told = header .before .before .before in
     let p = passed told .0 in
-    let f = found (told .before .before .before .before .before) in (
-      rw header-length (omega (arith, p .sized, words-inside f)),
-      ap (lowest isFilled) (header-words _ _ _ _) ∙ all-words _ isFilled _ (p .words-pass),
+    let shaped = told .before .before .before .before .before in
+    let n = shaped .shape-of .result .words in
+    let f = found shaped in (
+      omega (arith, put-length header, p .sized, words-inside f),
+      ap (λ (q : List ℕ). lowest isFilled (pageWords q n)) (put header)
+          ∙ ap (lowest isFilled) (header-words (shaped .before .before .before .args .page .now) _ _ n) ∙ all-words n isFilled _ (p .words-pass),
       omega (arith, f .few),
     )
 
@@ -103,17 +122,19 @@ enum-known-c-2 c = search needs
 
 same-length-2 : tie.Need-same-length-2
 same-length-2 c =
-    ap length (c .before .before .put-record .ensures) ∙ rw length-putWords (rw header-length refl)
+    let words = c .before .before in
+    ap length (words .put-record .ensures) ∙ length-putWords _ _ ∙ put-length (words .before .before .before .before)
 
 returns-2 : tie.Need-returns-2
 returns-2 c =
     let words = c .before .before in
-    let fits = words .before .before in
+    let header = words .before .before .before .before in
+    let fits = header .before .before in
     let p = passed (fits .before) in
     let shaped = fits .before .before .before .before .before .before in
     write-held fillCode _ _ _ _ _ (shaped .shape-of .ensures)
     (both-done _ _ _ _ _ (write-done _ _ _ (p .0) _ (p .1) (fits .if1 .left))
-    (words .put-record .ensures ∙ second-set (shaped .shape-of .result) _ _ (omega (arith, p .0 .sized, found shaped .inside))))
+    (words .put-record .ensures ∙ second-put (shaped .shape-of .result) _ _ _ (put header)))
 
 same-length-3 : tie.Need-same-length-3
 same-length-3 c = search needs
@@ -157,9 +178,7 @@ write-second-spec =
     cast-if1
     same-length
     returns
-    slice-write-page
-    cast-page
-    slice-write-page-2
+    put-header-requires
     put-record-requires
     enum-told
     enum-told-2

@@ -2,12 +2,11 @@
 use mathlib.Core.Bool.{Bool, true, false, not}
 use mathlib.Core.List.{List}
 use mathlib.Core.Logic.{inl, inr}
-use mathlib.Core.Path.{_≡_, refl, sym, ap, _∙_}
+use mathlib.Core.Path.{_≡_, refl, sym, ap, ap₂, _∙_}
 use Prim.Native.Nat.{ℕ, _*_, _≤_, _<_}
 use native.Mathlib.Omega.{arith}
 use lib.ListN.{length, take, drop, replicate}
 use Rattle.cells.specs.Bytes.{Bytes, zeros}
-use Rattle.cells.specs.Cells.{someSet}
 use Rattle.cells.proofs.Tests.{holds}
 use Rattle.cells.proofs.Fits.{not-not}
 use Rattle.answer.specs.Answer.{Answer, result, refusal, answer}
@@ -16,8 +15,8 @@ use Rattle.window.proofs.Words.{length-pageWords, Words-pageWords}
 use Rattle.window.proofs.Buffers.{buffer-spare, buffer-record}
 use Rattle.word.specs.Fill.{wellFormed}
 use Rattle.rows.specs.declared.shape.Shape.{Shape}
-use Rattle.rows.specs.Page.{byte1, lowest, readAll, secondBitsOf}
-use Rattle.rows.specs.Code.{fillCode, recordOf, AllJudgedOf, SecondRoundOf}
+use Rattle.rows.specs.Page.{recordLength, lowest, readAll, secondBitsOf}
+use Rattle.rows.specs.Code.{fillCode, spareOf, recordOf, AllJudgedOf, SecondRoundOf}
 use Rattle.rows.proofs.Lowest.{lowest-le, passed-before}
 use Rattle.rows.proofs.SecondWords.{read-most}
 use Rattle.rows.proofs.Shapes.{Sound, words-inside}
@@ -52,41 +51,41 @@ module _ (s : Shape) (P buffer : List ℕ) where
         held = d ∙ ap (λ (k : ℕ). putCells (replicate 256 0) 0 (readAll (pageWords P k))) all;
       }
 
-module _ (s : Shape) (P out buffer : List ℕ) (n : ℕ) (f : Found s P buffer n) where
+-- k is the record's length
+module _ (s : Shape) (P out buffer : List ℕ) (n : ℕ) (f : Found s P buffer n) (k : ℕ) (ek : k ≡ recordLength P) where
   abbrev Answers : Answer → Type 0
-  Answers a = answer (readChecks fillCode s P out) (byte1 P) ≡ a
+  Answers a = answer (readChecks fillCode s P out) (recordLength P) ≡ a
 
-  pub second-few : n < 8 * byte1 P → Answers (refusal 9 0)
-  second-few k = read-9 fillCode same-judged s P out 0 .1 (f .header, f .formed, inl (omega (arith, f .counted)), refl)
+  pub second-few : n < 8 * k → Answers (refusal 9 0)
+  second-few h = read-9 fillCode same-judged s P out 0 .1 (f .header, f .formed, inl (omega (arith, f .counted, ek)), refl)
 
   -- b tells whether what is after the record's bytes in the buffer is 0
-  module _ (sound : Sound s) (b : Bool) (eb : b ≡ zeros (drop (byte1 P) buffer)) where
-    spare : not b ≡ someSet (drop (8 * byte1 P) (secondBitsOf s P))
+  module _ (sound : Sound s) (b : Bool) (eb : b ≡ zeros (drop k buffer)) where
+    spare : not b ≡ spareOf fillCode s P
     spare =
         let m = s .words in
         ap not
-        (eb ∙ ap (λ (l : List ℕ). zeros (drop (byte1 P) l)) (f .held)
-        ∙ buffer-spare 256 (byte1 P) (secondBitsOf s P)
+        (eb ∙ ap₂ (λ (j : ℕ) (l : List ℕ). zeros (drop j l)) ek (f .held)
+        ∙ buffer-spare 256 (recordLength P) (secondBitsOf s P)
         (omega (arith, sound .few, read-most (pageWords P m) (Words-pageWords P m (omega (arith, words-inside sound, f .header .0))), length-pageWords P m)))
-        ∙ not-not (someSet (drop (8 * byte1 P) (secondBitsOf s P)))
+        ∙ not-not (spareOf fillCode s P)
 
     pub second-spare : not b ≡ true → Answers (refusal 9 0)
-    second-spare t =
-        read-9 fillCode same-judged s P out 0 .1 (f .header, f .formed, inr (holds (someSet (drop (8 * byte1 P) (secondBitsOf s P))) (sym spare ∙ t)), refl)
+    second-spare t = read-9 fillCode same-judged s P out 0 .1 (f .header, f .formed, inr (holds (spareOf fillCode s P) (sym spare ∙ t)), refl)
 
-    module _ (k : 8 * byte1 P ≤ n) (t : not b ≡ false) where
+    module _ (h : 8 * k ≤ n) (t : not b ≡ false) where
       second-round : SecondRoundOf fillCode s P
-      second-round = second-passed fillCode s P (f .of-bytes) (f .header) (f .formed) (omega (arith, f .counted)) (sym spare ∙ t)
+      second-round = second-passed fillCode s P (f .of-bytes) (f .header) (f .formed) (omega (arith, f .counted, ek)) (sym spare ∙ t)
 
-      pub second-output : length out < byte1 P → Answers (refusal 3 0)
-      second-output o = read-3 fillCode same-judged s P out 0 (f .of-bytes) .1 (second-round, o, refl)
+      pub second-output : length out < k → Answers (refusal 3 0)
+      second-output o = read-3 fillCode same-judged s P out 0 (f .of-bytes) .1 (second-round, omega (arith, ek), refl)
 
-      pub second-done : byte1 P ≤ length out → Answers (result (byte1 P))
-      second-done o = read-taken fillCode same-judged s P out (byte1 P) (f .of-bytes) .1 (second-round, o, refl)
+      pub second-done : k ≤ length out → Answers (result k)
+      second-done o = read-taken fillCode same-judged s P out k (f .of-bytes) .1 (second-round, omega (arith, ek), ek)
 
   -- the record's bytes in the buffer
-  pub second-record : Sound s → 8 * byte1 P ≤ n → take (byte1 P) buffer ≡ recordOf fillCode s P
+  pub second-record : Sound s → 8 * k ≤ n → take k buffer ≡ recordOf fillCode s P
   unfolding recordOf
-  second-record sound k =
-      ap (take (byte1 P)) (f .held)
-      ∙ buffer-record 256 (byte1 P) (secondBitsOf s P) (omega (arith, f .counted)) (omega (arith, f .header .2, sound .few))
+  second-record sound h =
+      ap₂ take ek (f .held)
+      ∙ buffer-record 256 (recordLength P) (secondBitsOf s P) (omega (arith, f .counted, ek)) (omega (arith, f .header .2, sound .few))
