@@ -1,4 +1,4 @@
--- What write Inspect and read Inspect (document 02, Change 7) answer and what they leave in their buffers: the Inspect code's writer and
+-- What write Inspect and read Inspect (document 02, Changes 7 and 9) answer and what they leave in their buffers: the Inspect code's writer and
 -- reader. And the paper's number and values for each case of their enums.
 -- Assumes nothing.
 use mathlib.Core.List.{List}
@@ -16,12 +16,13 @@ use Rattle.inspect.specs.declared.InspectRead.the-variants as inspectRea
 abbrev pub writeInspectAnswer : List ℕ → List ℕ → Answer
 writeInspectAnswer page bs = writeAnswer inspectCode page bs
 
--- "The state becomes 09 (hexadecimal), byte 1 holds" the length, each word is walked, and "later cells keep their first-round contents"
+-- "The state becomes 09 (hexadecimal)", bytes 1 and 2 hold the length, each word is walked, and "later cells keep their first-round contents"
 abbrev pub writeInspectLeaves : List ℕ → List ℕ → List ℕ
 writeInspectLeaves page bs = writeLeaves inspectCode page bs
 
--- "Its reader answers as read second does and refuses 1, 5 for a state other than 09, 6 for byte 1 above 247 or byte 2 not 0, 7 with the lowest
--- index of a word not legal so, 9 when the walk ends before that length is reached, then 3."
+-- "Its reader answers as read second does and refuses 1, 5 for a state other than 09", 6 for "a length above the limit of that code and page", 247
+-- or 495, "or on 512 bytes one of bytes 509 to 511 not 0", "7 with the lowest index of a word not legal so, 9 when the walk ends before that length
+-- is reached, then 3."
 abbrev pub readInspectAnswer : List ℕ → List ℕ → Answer
 readInspectAnswer page out = readAnswer inspectCode page out
 

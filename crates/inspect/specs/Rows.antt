@@ -6,7 +6,7 @@ use mathlib.Core.List.{List, [], _∷_, _++_}
 use Prim.Native.Nat.{ℕ, _+_, _-_}
 use lib.ListN.{length, drop}
 use Rattle.word.specs.Word.{legal}
-use Rattle.rows.specs.Page.{page256, stateFirst, stateInspect}
+use Rattle.rows.specs.Page.{stateFirst, stateInspect}
 use Rattle.rows.specs.Code.{Code}
 use Rattle.walk.specs.Walk.{walked, taken, readUpTo, unwalked}
 
@@ -20,7 +20,7 @@ unfoldable pub takenAll : List (List Bool) → List Bool → ℕ
 takenAll [] bs = 0
 takenAll (w ∷ ws) bs = taken w bs + takenAll ws (drop (taken w bs) bs)
 
--- the bits that the reader's walks find where n are wanted: "before the length in byte 1 is reached"
+-- the bits that the reader's walks find where n are wanted: "before the length in byte 1 is reached", now in bytes 1 and 2
 unfoldable pub readAllUpTo : ℕ → List (List Bool) → List Bool
 readAllUpTo n [] = []
 readAllUpTo n (w ∷ ws) = readUpTo n w ++ readAllUpTo (n - length (readUpTo n w)) ws
@@ -31,11 +31,9 @@ unwalkedAll n [] = []
 unwalkedAll n (w ∷ ws) = unwalked n w ∷ unwalkedAll (n - length (readUpTo n w)) ws
 
 -- the Inspect code, "on unfilled first-round pages": nothing comes ahead; "under this one a record fits when the words' walks take all its
--- bits"; no cell after the record's last bit is asked for, since "later cells keep their first-round contents". "Inspect stay[s] with 256
--- bytes" (Change 8)
+-- bits"; no cell after the record's last bit is asked for, since "later cells keep their first-round contents"
 abbrev pub inspectCode : Code
 inspectCode = record {
-  shape = λ page. page256;
   over = stateFirst;
   takes = legal;
   prepare = λ ws. ws;

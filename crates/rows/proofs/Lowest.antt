@@ -2,9 +2,9 @@
 -- of words exactly where every word passes.
 -- Assumes nothing.
 use mathlib.Core.Bool.{Bool, true, false, cond}
-use mathlib.Core.List.{List, [], _∷_}
+use mathlib.Core.List.{List, [], _∷_, _++_}
 use mathlib.Core.Path.{_≡_, refl, ap, _∙_}
-use Prim.Native.Nat.{ℕ, zero, suc, _≤_, _<_}
+use Prim.Native.Nat.{ℕ, zero, suc, _+_, _≤_, _<_}
 use native.Mathlib.Omega.{arith}
 use lib.Dec.{T}
 use lib.ListN.{length, getD}
@@ -57,6 +57,28 @@ module _ (test : List Bool → Bool) where
           let s : lowest test (w ∷ ws) ≡ suc (lowest test ws) = lowest-passed w ws e in
           rw s (f (omega arith))
       go false e f = rw (lowest-failed w ws e) e
+
+  -- ---- a row after another
+
+  pub lowest-front : (ws vs : List (List Bool)) → lowest test ws < length ws → lowest test (ws ++ vs) ≡ lowest test ws
+  unfolding lowest
+  lowest-front [] vs h = absurd (omega arith)
+  lowest-front (w ∷ ws) vs h = go (test w) h (lowest-front ws vs)
+    where
+      go : (b : Bool) → cond b (suc (lowest test ws)) 0 < suc (length ws) → (lowest test ws < length ws → lowest test (ws ++ vs) ≡ lowest test ws)
+          → cond b (suc (lowest test (ws ++ vs))) 0 ≡ cond b (suc (lowest test ws)) 0
+      go true h f = ap suc (f (omega arith))
+      go false h f = refl
+
+  pub lowest-back : (ws vs : List (List Bool)) → lowest test ws ≡ length ws → lowest test (ws ++ vs) ≡ length ws + lowest test vs
+  unfolding lowest
+  lowest-back [] vs h = omega arith
+  lowest-back (w ∷ ws) vs h = go (test w) h (lowest-back ws vs)
+    where
+      go : (b : Bool) → cond b (suc (lowest test ws)) 0 ≡ suc (length ws) → (lowest test ws ≡ length ws → lowest test (ws ++ vs) ≡ length ws + lowest test vs)
+          → cond b (suc (lowest test (ws ++ vs))) 0 ≡ suc (length ws) + lowest test vs
+      go true h f = omega (arith, f (omega arith))
+      go false h f = absurd (omega arith)
 
   -- ---- where every word passes
 

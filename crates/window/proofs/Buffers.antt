@@ -1,16 +1,17 @@
 -- A buffer of zeros that bits were put into, from its first on: its bytes are those of the bits, with 0 after them. Assumes nothing.
-use mathlib.Core.Bool.{Bool, false, not}
-use mathlib.Core.List.{List, _++_, append-assoc}
-use mathlib.Core.Path.{_≡_, refl, sym, ap, _∙_}
+use mathlib.Core.Bool.{Bool, true, false, not}
+use mathlib.Core.List.{List, [], _∷_, _++_, append-assoc}
+use mathlib.Core.Path.{_≡_, refl, sym, ap, _∙_, subst}
 use Prim.Native.Nat.{ℕ, zero, suc, _+_, _-_, _*_, _≤_}
 use native.Mathlib.Nat.{sub-zero, zero-sub, suc-sub-suc}
 use native.Mathlib.Omega.{arith}
-use lib.ListN.{length, take, drop, replicate, length-replicate, replicate-append-replicate, length-append}
+use lib.Dec.{T}
+use lib.ListN.{length, take, drop, replicate, length-replicate, length-append, length-drop}
+use lib.Seq.{drop-drop}
 use Rattle.cells.specs.Cells.{someSet}
 use Rattle.cells.specs.Bytes.{bits, bytes, zeros}
-use Rattle.cells.proofs.Bits.{cells-zero}
-use Rattle.cells.proofs.Fits.{bits-alike, drop-clear, spare-clear, take-bytes, bytes-front, zeros-bits, zero-bits}
-use Rattle.cells.proofs.Bytes.{drop-bits, Bytes-bytes, Bytes-drop}
+use Rattle.cells.proofs.Fits.{drop-clear, spare-clear, take-bytes, bytes-front, zeros-bits, zero-bits}
+use Rattle.cells.proofs.Bytes.{length-bits, drop-bits, Bytes-bytes, Bytes-drop}
 use Rattle.window.specs.Words.{splice, putCells}
 use Rattle.window.proofs.Words.{bits-putCells}
 
@@ -42,19 +43,25 @@ drop-replicate zero k b = ap (λ (m : ℕ). replicate m b) (sym (sub-zero k))
 drop-replicate (suc n) zero b = ap (λ (m : ℕ). replicate m b) (sym (zero-sub (suc n)))
 drop-replicate (suc n) (suc k) b = drop-replicate n k b ∙ ap (λ (m : ℕ). replicate m b) (sym (suc-sub-suc k n))
 
-pub buffer-zeros : (m j : ℕ) (r : List Bool) → length r + j ≤ 8 * m
-    → putCells (replicate m 0) 0 (r ++ replicate j false) ≡ putCells (replicate m 0) 0 r
+clear-front : (j : ℕ) (l : List Bool) → someSet l ≡ false → j ≤ length l → replicate j false ++ drop j l ≡ l
+unfolding someSet
+clear-front zero l e h = refl
+clear-front (suc j) [] e h = absurd (omega arith)
+clear-front (suc j) (true ∷ l) e h = absurd (subst T e tt)
+clear-front (suc j) (false ∷ l) e h = ap (λ (r : List Bool). false ∷ r) (clear-front j l e (omega arith))
+
+pub putCells-zeros : (page : List ℕ) (a j : ℕ) (r : List Bool) → someSet (drop a (bits page)) ≡ false → a + (length r + j) ≤ 8 * length page
+    → putCells page a (r ++ replicate j false) ≡ putCells page a r
 unfolding splice
-buffer-zeros m j r h =
+putCells-zeros page a j r e h =
     let z = replicate j false in
-    let n : 0 + length (r ++ z) ≡ length r + j = omega (arith, length-append r z, length-replicate j false) in
-    let after : (k : ℕ) → drop k (bits (replicate m 0)) ≡ replicate (8 * m - k) false =
-    λ k. ap (drop k) (bits-alike m 0 false (cells-zero 8)) ∙ drop-replicate k (8 * m) false in
-    let e : j + (8 * m - (length r + j)) ≡ 8 * m - (0 + length r) = omega arith in
-    ap (bytes (length (replicate m 0)))
-    (append-assoc r z (after-bits m (r ++ z))
-    ∙ ap (λ (l : List Bool). r ++ l)
-    (ap (λ (l : List Bool). z ++ l) (ap (λ (k : ℕ). drop k (bits (replicate m 0))) n ∙ after (length r + j))
-    ∙ replicate-append-replicate j (8 * m - (length r + j)) false
-    ∙ ap (λ (k : ℕ). replicate k false) e
-    ∙ sym (after (0 + length r))))
+    let l = bits page in
+    let x = a + length r in
+    let n : a + length (r ++ z) ≡ x + j = omega (arith, length-append r z, length-replicate j false) in
+    let c : someSet (drop x l) ≡ false = ap someSet (sym (drop-drop (length r) a l)) ∙ drop-clear (length r) (drop a l) e in
+    ap (λ (u : List Bool). bytes (length page) (take a l ++ u))
+    (append-assoc r z (drop (a + length (r ++ z)) l)
+    ∙ ap (λ (u : List Bool). r ++ u)
+    (ap (λ (k : ℕ). z ++ drop k l) n
+    ∙ ap (λ (u : List Bool). z ++ u) (sym (drop-drop j x l))
+    ∙ clear-front j (drop x l) c (omega (arith, length-drop x l, length-bits page))))

@@ -6,7 +6,6 @@ use mathlib.Core.List.{List, [], _∷_, _++_, append-assoc, append-nil}
 use mathlib.Core.Path.{_≡_, refl, sym, ap, ap₂, _∙_}
 use Prim.Native.Nat.{ℕ, zero, suc, _+_, _-_, _*_, _/_, _^_, _≤_, _<_}
 use native.Mathlib.Nat.{zero-add, suc-add, mul-div-cancel-left}
-use native.Mathlib.Numerals.{add-one}
 use native.Mathlib.Omega.{arith}
 use lib.Dec.{lit<}
 use lib.ListN.{length, take, drop, getD, set, length-append, length-drop, take-append-drop}
@@ -84,6 +83,13 @@ module _ (page : List ℕ) (a : ℕ) (new : List Bool) where
       ap₂ bytes length-putCells
       (ap (splice (a + length new) w) (bits-putCells h) ∙ splice-more a new w (bits page) (omega (arith, length-bits page)))
 
+-- none put
+pub putCells-none : (page : List ℕ) (a : ℕ) → Bytes page → putCells page a [] ≡ page
+unfolding splice
+putCells-none page a b =
+    let e : a + 0 ≡ a = omega arith in
+    ap (bytes (length page)) (ap (λ (k : ℕ). take a (bits page) ++ drop k (bits page)) e ∙ take-append-drop a (bits page)) ∙ bytes-bits page b
+
 -- ---- words, one after another
 
 pub length-join : (ws : List (List Bool)) → Words ws → length (join ws) ≡ 46 * length ws
@@ -137,8 +143,8 @@ getD-pageWords page n i h = getD-pieces n (drop 24 (bits page)) i h ∙ ap (take
 -- ---- a page from its words
 
 pub putWords-none : (page : List ℕ) → Bytes page → putWords page [] ≡ page
-unfolding putWords splice join
-putWords-none page b = ap (bytes (length page)) (take-append-drop 24 (bits page)) ∙ bytes-bits page b
+unfolding putWords join
+putWords-none page b = putCells-none page 24 b
 
 -- how a loop that puts words extends what it has done
 pub putWords-more : (page : List ℕ) (ws : List (List Bool)) (w : List Bool) → Words ws → length w ≡ 46 → start (length ws) + 46 ≤ 8 * length page
@@ -243,20 +249,44 @@ module _ (ws : List (List Bool)) (m : ℕ) (hs : Words ws) (e : 46 * length ws �
       ∙ ap (pieces (length ws)) (drop-at (bits head) (join ws ++ bits tail) 24 (omega (arith, length-bits head)))
       ∙ pieces-join ws (bits tail) hs
 
--- one more word
-pieces-more : (n : ℕ) (l : List Bool) → pieces (suc n) l ≡ pieces n l ++ (take 46 (drop (46 * n) l) ∷ [])
+-- more words
+pieces-append : (m n : ℕ) (l : List Bool) → pieces (m + n) l ≡ pieces m l ++ pieces n (drop (46 * m) l)
 unfolding pieces
-pieces-more zero l = refl
-pieces-more (suc n) l =
-    let e : 46 + 46 * n ≡ 46 * suc n = omega arith in
-    ap (λ (r : List (List Bool)). take 46 l ∷ r)
-    (pieces-more n (drop 46 l) ∙ ap (λ (r : List Bool). pieces n (drop 46 l) ++ (take 46 r ∷ [])) (drop-drop (46 * n) 46 l ∙ ap (λ (k : ℕ). drop k l) e))
+pieces-append zero n l = ap (λ (k : ℕ). pieces k l) (zero-add n)
+pieces-append (suc m) n l =
+    let e : 46 + 46 * m ≡ 46 * suc m = omega arith in
+    ap (λ (k : ℕ). pieces k l) (suc-add m n)
+    ∙ ap (λ (r : List (List Bool)). take 46 l ∷ r)
+    (pieces-append m n (drop 46 l)
+    ∙ ap (λ (r : List Bool). pieces m (drop 46 l) ++ pieces n r) (drop-drop (46 * m) 46 l ∙ ap (λ (k : ℕ). drop k l) e))
 
+-- one more
 pub pageWords-more : (page : List ℕ) (n : ℕ) → pageWords page (n + 1) ≡ pageWords page n ++ (wordAt page n ∷ [])
-unfolding pageWords wordAt
+unfolding pageWords wordAt pieces
 pageWords-more page n =
-    ap (λ (k : ℕ). pieces k (drop 24 (bits page))) (add-one n) ∙ pieces-more n (drop 24 (bits page))
+    pieces-append n 1 (drop 24 (bits page))
     ∙ ap (λ (l : List Bool). pieces n (drop 24 (bits page)) ++ (take 46 l ∷ [])) (drop-drop (46 * n) 24 (bits page))
+
+-- words that take k whole bytes: those after them are the words of the page from byte k on
+module _ (page : List ℕ) (m k : ℕ) (e : 46 * m ≡ 8 * k) where
+  after-words : (j : ℕ) → drop (24 + j) (bits (drop k page)) ≡ drop (24 + (46 * m + j)) (bits page)
+  after-words j =
+      let f : 8 * k + (24 + j) ≡ 24 + (46 * m + j) = omega arith in
+      ap (drop (24 + j)) (sym (drop-bits k page)) ∙ drop-drop (24 + j) (8 * k) (bits page) ∙ ap (λ (i : ℕ). drop i (bits page)) f
+
+  pub pageWords-append : (n : ℕ) → pageWords page (m + n) ≡ pageWords page m ++ pageWords (drop k page) n
+  unfolding pageWords
+  pageWords-append n =
+      let f : 24 + (46 * m + 0) ≡ 24 + 46 * m = omega arith in
+      pieces-append m n (drop 24 (bits page))
+      ∙ ap (λ (l : List Bool). pieces m (drop 24 (bits page)) ++ pieces n l)
+      (drop-drop (46 * m) 24 (bits page) ∙ sym (after-words 0 ∙ ap (λ (i : ℕ). drop i (bits page)) f))
+
+  pub wordAt-after : (j : ℕ) → wordAt (drop k page) j ≡ wordAt page (m + j)
+  unfolding wordAt
+  wordAt-after j =
+      let f : 24 + (46 * m + 46 * j) ≡ start (m + j) = omega arith in
+      ap (take 46) (after-words (46 * j) ∙ ap (λ (i : ℕ). drop i (bits page)) f)
 
 pub length-wordAt : (page : List ℕ) (i : ℕ) → start i + 46 ≤ 8 * length page → length (wordAt page i) ≡ 46
 unfolding wordAt

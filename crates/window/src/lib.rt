@@ -92,12 +92,12 @@ pub fn put_few(page: &mut [u8], at: usize, count: usize, v: u64)
     put_bytes(page, k, 4, replaced(old, 32 - at % 8 - count, count, v));
 }
 
-// Copies a page's 256 bytes, eight at a time. (A copy byte by byte would be compiled to a call of the C library.)
-pub fn copy_page(to: &mut [u8], from: &[u8])
-    requires { ⌜ (256 ≤ length (now to)) × (256 ≤ length (now from)) ⌝ }
-    ensures { λ _. ⌜ now (to .exit) ≡ atStart (take 256 (now (from .entry))) (now (to .entry)) ⌝ }
+// Copies the first 8 * k bytes, eight at a time. (A copy byte by byte would be compiled to a call of the C library.)
+pub fn copy_eights(to: &mut [u8], from: &[u8], k: usize)
+    requires { ⌜ (8 * k ≤ length (now to)) × (8 * k ≤ length (now from)) × (k < 2 ^ 16) ⌝ }
+    ensures { λ _. ⌜ now (to .exit) ≡ atStart (take (8 * k) (now (from .entry))) (now (to .entry)) ⌝ }
 {
-    for j in 0..32 {
+    for j in 0..k {
         put_bytes(to, 8 * j, 8, window(from, 8 * j));
     }
 }

@@ -1,19 +1,19 @@
--- `window::copy_page` meets its contract: after j turns the first 8 * j bytes are in. Assumes nothing.
+-- `window::copy_eights` meets its contract: after j turns the first 8 * j bytes are in. Assumes nothing.
 mod Copying
 use mathlib.Core.Path.{_≡_, refl, ap, _∙_}
 use Prim.Native.Nat.{ℕ, _≤_, _+_, _*_, _-_}
 use native.Mathlib.Omega.{arith}
 use lib.ListN.{length, take}
 use Rattle.cells.specs.Bytes.{Bytes, atStart}
-use Rattle.window.proofs.copy_page.Proof.Copying.{copy-eight}
-use Rattle.window.proofs.copy_page.Statement.{statement}
-use Rattle.window.proofs.copy_page.Tie as tie
+use Rattle.window.proofs.copy_eights.Proof.Copying.{copy-eight}
+use Rattle.window.proofs.copy_eights.Statement.{statement}
+use Rattle.window.proofs.copy_eights.Tie as tie
 
 abbrev Inv-loop : tie.InvT-loop
-Inv-loop to₀ from j₀ to j = (j ≤ 32) × (length to ≡ length to₀) × (to ≡ atStart (take (8 * j) from) to₀)
+Inv-loop to₀ from k j₀ to j = (j ≤ k) × (length to ≡ length to₀) × (to ≡ atStart (take (8 * j) from) to₀)
 
 abbrev μ-loop : tie.MeasureT-loop
-μ-loop to₀ from j₀ to j = 32 - j
+μ-loop to₀ from k j₀ to j = k - j
 
 loop-holds : tie.Need-loop-holds Inv-loop μ-loop
 loop-holds c = unfold atStart in (omega arith, refl, refl)
@@ -56,11 +56,11 @@ same-length c = c .before .loop .inv .1
 returns : tie.Need-returns Inv-loop μ-loop
 returns c =
     let a = c .before .before .before .before in
-    let e : 8 * c .before .loop .j ≡ 256 = omega arith in
+    let e : 8 * c .before .loop .j ≡ 8 * a .args .k = omega arith in
     c .before .loop .inv .2 ∙ ap (λ (k : ℕ). atStart (take k (a .args .from .now)) (a .args .to .now)) e
 
-pub copy-page-spec : {M : Type 1} → statement M
-copy-page-spec =
+pub copy-eights-spec : {M : Type 1} → statement M
+copy-eights-spec =
     tie.close
     (tie.spec
     Inv-loop
