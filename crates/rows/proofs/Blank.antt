@@ -10,6 +10,7 @@ use lib.Dec.{T, eqb, eqb→eq}
 use lib.ListN.{length, length-replicate}
 use mir.Facts.{and-yes}
 use Rattle.cells.specs.Bytes.{Bytes, zeros}
+use Rattle.cells.proofs.Bytes.{Bytes-zeros}
 use Rattle.cells.proofs.Tests.{holds}
 use Rattle.answer.proofs.Tells.{Tells}
 use Rattle.rows.specs.Page.{blankOf}
@@ -29,9 +30,7 @@ blank-zeros (b ∷ P) h =
 
 pub Bytes-blank : (n : ℕ) → Bytes (blankOf n)
 unfolding blankOf
-Bytes-blank zero i = omega arith
-Bytes-blank (suc n) zero = omega arith
-Bytes-blank (suc n) (suc i) = Bytes-blank n i
+Bytes-blank n = Bytes-zeros n
 
 pub length-blank : (n : ℕ) → length (blankOf n) ≡ n
 unfolding blankOf
