@@ -24,11 +24,11 @@ use Rattle.word.proofs.Filling.{capacity-le, length-fill}
 use Rattle.word.proofs.FreeCells.{fill-lt}
 use Rattle.word.proofs.Pulses.{fillPulses-le}
 use Rattle.rows.specs.declared.shape.Shape.{Shape}
-use Rattle.rows.specs.Page.{page256, shapeOf, state, stateFirst, recordLength, lowest, sumOver, pulsesAll, capacityAll, readAll}
+use Rattle.rows.specs.Page.{shapeOf, state, stateFirst, recordLength, lowest, sumOver, pulsesAll, capacityAll, readAll}
 use Rattle.rows.specs.Code.{Code, fillCode, longest, roomFor, judgedOf}
 use Rattle.rows.proofs.Headers.{header-tells}
 use Rattle.rows.proofs.Lowest.{lowest-le}
-use Rattle.rows.proofs.Shapes.{Sound, sound256, sound-of}
+use Rattle.rows.proofs.Shapes.{Sound, sound-of}
 use Rattle.page.specs.Answer.{writeFirstChecks, stateChecks, firstChecks, readFirstChecks, writeChecks, recordChecks, readChecks}
 use Rattle.filled.specs.Answer.{capacityChecks, roomFilled, roomOf}
 use Rattle.walk.specs.Walk.{taken}
@@ -178,10 +178,13 @@ page-answers-faithful = record {
       (reader-small f P fillCode out (length-pageWords P (shapeOf P .words)))
       (length-small f P fillCode out (omega (arith, f .few)));
   write-inspect = λ P R.
-      taken-apart (writeChecks inspectCode page256 P R) 0 (writer-small sound256 P inspectCode R (taken-small sound256 P R)) (λ n. omega arith);
+      let f = sound-of P in
+      taken-apart (writeChecks inspectCode (shapeOf P) P R) 0 (writer-small f P inspectCode R (taken-small f P R)) (λ n. omega arith);
   read-inspect = λ P out.
-      taken-apart (readChecks inspectCode page256 P out) (recordLength P)
-      (reader-small sound256 P inspectCode out (length-unwalkedAll (8 * recordLength P) (pageWords P 44) ∙ length-pageWords P 44))
-      (length-small sound256 P inspectCode out (omega arith));
+      let f = sound-of P in
+      let n = shapeOf P .words in
+      taken-apart (readChecks inspectCode (shapeOf P) P out) (recordLength P)
+      (reader-small f P inspectCode out (length-unwalkedAll (8 * recordLength P) (pageWords P n) ∙ length-pageWords P n))
+      (length-small f P inspectCode out (omega (arith, f .few)));
   write-file = λ d P out. taken-apart (writeFileChecks d P out) _ (omega arith, (omega arith, tt)) (file-small d P out);
 }
