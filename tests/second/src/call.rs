@@ -2,7 +2,7 @@
 
 use crate::answer::Answer;
 use crate::page::{BLANK, FILLED, FIRST_ROUND, INSPECTED, SECOND_ROUND};
-use crate::shape::{Shape, SMALL};
+use crate::shape::Shape;
 use crate::{file, inspect, page, word};
 
 /// The entries, in the order of their numbers.
@@ -129,30 +129,19 @@ impl Entry {
         }
     }
 
-    /// The shapes of the pages that the entry accepts; none for an entry without a page of its own. "The listing, the gain
-    /// sheet, the van's file and Inspect stay with 256 bytes."
-    pub fn shapes(self) -> &'static [Shape] {
-        match self {
-            Entry::WriteInspect | Entry::ReadInspect => &[SMALL],
-            _ if self.takes_page() => &Shape::BOTH,
-            _ => &[],
-        }
+    /// The entries that take a page in this state, of either size.
+    pub fn taking(state: u8) -> Vec<Entry> {
+        Entry::OF_PAGES.into_iter().filter(|entry| entry.states().contains(&state)).collect()
     }
 
-    /// Whether the entry accepts pages of this shape.
-    pub fn takes(self, shape: Shape) -> bool {
-        self.shapes().contains(&shape)
-    }
-
-    /// The entries that take a page in this state and of this shape.
-    pub fn taking(state: u8, shape: Shape) -> Vec<Entry> {
-        let takes = |entry: &Entry| entry.states().contains(&state) && entry.takes(shape);
-        Entry::OF_PAGES.into_iter().filter(takes).collect()
-    }
-
-    /// Each of the entries with each shape that it takes.
+    /// Each of these entries, which take a page, with each shape of it.
     pub fn with_shapes(entries: &[Entry]) -> impl Iterator<Item = (Entry, Shape)> + '_ {
-        entries.iter().flat_map(|&entry| entry.shapes().iter().map(move |&shape| (entry, shape)))
+        entries.iter().flat_map(|&entry| Shape::BOTH.map(|shape| (entry, shape)))
+    }
+
+    /// Each entry that takes a page, with each state that it asks for.
+    pub fn with_states() -> impl Iterator<Item = (Entry, u8)> {
+        Entry::OF_PAGES.into_iter().flat_map(|entry| entry.states().iter().map(move |&state| (entry, state)))
     }
 
     pub fn takes_page(self) -> bool {
@@ -243,6 +232,7 @@ impl Call {
 #[cfg(test)]
 mod tests {
     use super::*;
+    use crate::answer::Refusal;
 
     /// The numbers that the vectors' files use.
     #[test]
@@ -266,17 +256,25 @@ mod tests {
         }
     }
 
-    /// Every entry with a page takes both sizes, but those of the Inspect code.
+    /// "Refusal 1 there becomes neither 256 nor 512": with a page, each entry takes both sizes and no other length, so that
+    /// every state of a page of zeros leads to another answer than 1.
     #[test]
-    fn the_shapes_of_the_entries() {
-        for entry in Entry::ALL {
-            let sizes: Vec<usize> = entry.shapes().iter().map(|shape| shape.bytes).collect();
-            let wanted: &[usize] = match entry.number() {
-                4..=8 | 10 => &[256, 512],
-                11 | 12 => &[256],
-                _ => &[],
-            };
-            assert_eq!(sizes, wanted, "{}", entry.name());
+    fn every_entry_with_a_page_takes_both_sizes() {
+        for (entry, length) in
+            Entry::OF_PAGES.into_iter().flat_map(|entry| (0..=600).map(move |length| (entry, length)))
+        {
+            let answer = Call::of_page(entry, vec![0; length], Vec::new()).perform();
+            assert_eq!(answer == Err(Refusal::PAGE_LENGTH), ![256, 512].contains(&length), "{} {length}", entry.name());
         }
+    }
+
+    #[test]
+    fn the_entries_of_each_state() {
+        let numbers = |state: u8| Entry::taking(state).into_iter().map(Entry::number).collect::<Vec<_>>();
+        assert_eq!(
+            [0x00, 0x01, 0x03, 0x07, 0x09, 0x02].map(numbers),
+            [vec![4], vec![5, 6, 10, 11], vec![6, 7], vec![8], vec![12], vec![],]
+        );
+        assert_eq!(Entry::with_states().count(), 9);
     }
 }

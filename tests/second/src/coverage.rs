@@ -1,8 +1,11 @@
 //! Counters of the calls that a run has made, and of their answers. A run is wrong unless it has met each that is wanted:
 //! each answer of each entry on each size of page that it can be met on; among them, accepted pages as only versions before
-//! Change 6 left them, pages that only Change 6 lets be accepted, both ends of what a word takes by the Inspect code, and
-//! pages of 512 bytes that are refused for one of bytes 509 to 511 alone.
+//! Change 6 left them, pages that only Change 6 lets be accepted, both ends of what a word takes by the Inspect code, each
+//! word that a record by it ends in, each limit of a length, and pages of 512 bytes that are refused for one of bytes 509 to
+//! 511 alone.
 
+mod inspect;
+mod length;
 mod shape;
 mod tail;
 
@@ -45,12 +48,11 @@ fn size_name(size: Size) -> String {
     size.map_or(String::new(), |shape| format!(", on {} bytes", shape.bytes))
 }
 
-/// Whether an entry can give this answer on this size: 1 on each that it does not take, and every other one, acceptance
-/// among them, on each that it takes.
+/// Whether an entry can give this answer, acceptance among them, on this size: with a page it gives 1 on neither size, and
+/// every other one on each.
 fn can_give(entry: Entry, size: Size, number: u8) -> bool {
     let given = number == 0 || entry.refusals().contains(&number);
-    let taken = size.map_or(!entry.takes_page(), |shape| entry.takes(shape));
-    given && taken == (number != 1) && (size.is_none() || entry.takes_page())
+    given && size.is_some() == (entry.takes_page() && number != 1)
 }
 
 /// Every answer of the entry, 0 for acceptance, on each size that it can be met on, in the stated order.
@@ -211,7 +213,7 @@ impl Coverage {
                 let filled = self.measured[Place::Canaries.number()][size_number(size)][1][0];
                 format!("  filled accepted: {filled}") + &self.shapes[shape.number()].told_of(entry)
             }
-            (_, Some(shape)) if entry.takes(shape) => self.shapes[shape.number()].told_of(entry),
+            (_, Some(shape)) => self.shapes[shape.number()].told_of(entry),
             _ => String::new(),
         }
     }
@@ -271,8 +273,8 @@ fn answer_name(number: u8) -> String {
     }
 }
 
-/// The answers that a far length of the entry's page or pages, and of its other buffer with a page of each size that it
-/// takes, must have led to.
+/// The answers that a far length of the entry's page or pages, and of its other buffer with a page of each size, must have
+/// led to.
 fn far_answers(entry: Entry) -> Vec<(Size, u8)> {
     let other = match entry {
         Entry::WriteFirst => Some(2),
@@ -292,11 +294,12 @@ mod tests {
     use crate::cases::pages::{filled_page, page_of, with_byte};
     use crate::cases::words::value_with_pulses;
     use crate::word::{legal_word, number_of};
+    use length::is_of_lengths;
     use std::collections::HashSet;
 
-    /// How many counters are still 0.
+    /// How many counters, but for those of lengths, are still 0.
     fn missing(coverage: &Coverage) -> usize {
-        coverage.wanted().into_iter().filter(|(_, met)| *met == 0).count()
+        coverage.wanted().into_iter().filter(|(name, met)| *met == 0 && !is_of_lengths(name)).count()
     }
 
     /// Every refusal of every entry on each size that it can be met on.
@@ -308,12 +311,12 @@ mod tests {
         assert_eq!(answers(Entry::WriteFile), [(none, 0), (none, 13), (none, 3)]);
         let of_first = [(none, 1), (small, 0), (small, 2), (small, 4), (large, 0), (large, 2), (large, 4)];
         assert_eq!(answers(Entry::WriteFirst), of_first);
-        let of_inspect = [(none, 1), (small, 0), (small, 5), (small, 6), (small, 7), (small, 8), (large, 1)];
-        assert_eq!(answers(Entry::WriteInspect), of_inspect);
+        let of_inspect = [0, 5, 6, 7, 8];
+        let of_inspect = [small, large].into_iter().flat_map(|size| of_inspect.map(|number| (size, number)));
+        assert_eq!(answers(Entry::WriteInspect), [(none, 1)].into_iter().chain(of_inspect).collect::<Vec<_>>());
         for entry in Entry::OF_PAGES {
-            let both = if Entry::OF_INSPECT.contains(&entry) { 1 } else { 2 };
-            // Acceptance in place of 1 on each size that is taken.
-            assert_eq!(answers(entry).len(), 3 - both + both * entry.refusals().len(), "{}", entry.name());
+            // Acceptance in place of 1 on each size.
+            assert_eq!(answers(entry).len(), 1 + 2 * entry.refusals().len(), "{}", entry.name());
         }
     }
 
@@ -327,8 +330,8 @@ mod tests {
         assert_eq!(far_answers(Entry::FillPage), [(none, 1)]);
         assert_eq!(far_answers(Entry::WriteSecond), [(none, 1), (small, 8), (large, 8)]);
         assert_eq!(far_answers(Entry::ReadSecond), [(none, 1), (small, 0), (large, 0)]);
-        assert_eq!(far_answers(Entry::WriteInspect), [(none, 1), (small, 8)]);
-        assert_eq!(far_answers(Entry::ReadInspect), [(none, 1), (small, 0)]);
+        assert_eq!(far_answers(Entry::WriteInspect), [(none, 1), (small, 8), (large, 8)]);
+        assert_eq!(far_answers(Entry::ReadInspect), [(none, 1), (small, 0), (large, 0)]);
         assert_eq!(far_answers(Entry::WriteFile), [(none, 0), (none, 13)]);
     }
 
@@ -390,11 +393,12 @@ mod tests {
         met_by_call(&Call::of_page(entry, page, vec![0; 127]))
     }
 
-    /// The counters that a call between canary bytes turns from 0, by name.
+    /// The counters that a call between canary bytes turns from 0, by name, but for those of lengths.
     fn met_by_call(call: &Call) -> Vec<String> {
         let mut coverage = Coverage::new();
         coverage.count(call, Place::Canaries, call.clone().perform());
-        coverage.wanted().into_iter().filter(|(_, met)| *met > 0).map(|(name, _)| name).collect()
+        let met = coverage.wanted().into_iter().filter(|(name, met)| *met > 0 && !is_of_lengths(name));
+        met.map(|(name, _)| name).collect()
     }
 
     #[test]
@@ -423,7 +427,7 @@ mod tests {
             assert_eq!(met_by(Entry::ReadSecond, vec![0; shape.bytes]), [format!("read second 5{size}")]);
         }
         assert_eq!(met_by(Entry::WriteInspect, vec![0; 256]), ["write inspect 5, on 256 bytes"]);
-        assert_eq!(met_by(Entry::WriteInspect, vec![0; 512]), ["write inspect 1, on 512 bytes"]);
+        assert_eq!(met_by(Entry::WriteInspect, vec![0; 512]), ["write inspect 5, on 512 bytes"]);
         assert_eq!(met_by(Entry::WriteInspect, vec![0; 511]), ["write inspect 1"]);
         let file = Call::of_file(1, vec![0; 512], vec![0; 530]);
         assert_eq!(met_by_call(&file), ["write file accepted"]);

@@ -1,17 +1,12 @@
-//! The Inspect code of Change 7: the walk over a word, and the page's two operations by this code.
+//! The Inspect code of Change 7: the walk over a word, and the page's two operations by this code, which Change 9 offers on
+//! both sizes.
 
 use crate::answer::{refuse_if, Answer, Refusal};
 use crate::page::{
-    bits_of, first_round_words, put_record_out, put_words, refuse_word, words_below_header, Words, INSPECTED,
+    bits_of, first_round_words, length_of, put_length, put_record_out, put_words, refuse_word, words_below_header,
+    words_of, Words, INSPECTED,
 };
-use crate::shape::SMALL;
 use crate::word::{self, Cells};
-
-/// "byte 1 holds 0 to 247".
-pub const INSPECT_BYTES_MOST: usize = 247;
-
-/// "so 126 bytes always go in".
-pub const INSPECT_BYTES_SURE: usize = 126;
 
 /// "Each word walked to its end takes 23 to 45 bits".
 pub const WALK_ENDS: [usize; 2] = [23, 45];
@@ -75,7 +70,7 @@ pub fn clear_pairs(cells: &mut [bool], steps: &[Step]) {
 }
 
 /// The steps of each word's walk, until `count` bits are read. "A pair counts as read when the walk meets it before the
-/// length in byte 1 is reached."
+/// length" in bytes 1 and 2 "is reached".
 pub fn walks(words: &[Cells], count: usize) -> Vec<Vec<Step>> {
     let mut left = count;
     let mut walks = Vec::new();
@@ -87,6 +82,11 @@ pub fn walks(words: &[Cells], count: usize) -> Vec<Vec<Step>> {
     walks
 }
 
+/// The steps of each word's walk that the length of the page asks for.
+pub fn walks_of(page: &[u8]) -> Vec<Vec<Step>> {
+    walks(&words_of(page), 8 * length_of(page))
+}
+
 /// The words with the read 11 pairs put to 00.
 pub fn without_pairs(words: &[Cells], walks: &[Vec<Step>]) -> Words {
     let mut words = words.to_vec();
@@ -96,31 +96,24 @@ pub fn without_pairs(words: &[Cells], walks: &[Vec<Step>]) -> Words {
     words
 }
 
-/// "Refusal 1 now means neither 256 nor 512 bytes (for Inspect still not 256)".
-fn refuse_length(page: &[u8]) -> Result<(), Refusal> {
-    refuse_if(page.len() != SMALL.bytes, Refusal::PAGE_LENGTH)
-}
-
 /// Puts a record over a first-round page. It refuses "8 when the last word's walk ends before the record does, with the
 /// number of record bits that all the words' walks take".
 pub fn write_inspect(page: &mut [u8], record: &[u8]) -> Answer {
-    refuse_length(page)?;
     let mut words = first_round_words(page)?;
     let mut bits = bits_of(record);
     let taken = words.iter_mut().map(|cells| put_bits(cells, &mut bits)).sum();
     refuse_if(bits.next().is_some(), Refusal::record_length(taken))?;
     put_words(page, &words);
-    page[1] = record.len() as u8;
+    put_length(page, record.len());
     page[0] = INSPECTED;
     Ok(0)
 }
 
-/// "Its reader answers as read second does and refuses 1, 5 for a state other than 09, 6 for byte 1 above 247 or byte 2 not
-/// 0, 7 with the lowest index of a word not legal so, 9 when the walk ends before that length is reached, then 3."
+/// "Its reader answers as read second does and refuses 1, 5 for a state other than 09, 6" as it does too, "7 with the lowest
+/// index of a word not legal so, 9 when the walk ends before that length is reached, then 3."
 pub fn read_inspect(page: &[u8], output: &mut [u8]) -> Answer {
-    refuse_length(page)?;
     let words = words_below_header(page, INSPECTED)?;
-    let count = 8 * usize::from(page[1]);
+    let count = 8 * length_of(page);
     let walks = walks(&words, count);
     refuse_word(&without_pairs(&words, &walks), word::legal)?;
     let bits: Vec<bool> = walks.concat().iter().map(|step| step.bit).collect();
@@ -132,15 +125,16 @@ pub fn read_inspect(page: &[u8], output: &mut [u8]) -> Answer {
 mod tests {
     use super::*;
     use crate::cases::inspect::{
-        any_record, first_taking_less, inspect_page, large_inspect, longest_of, record_for, RECORDS,
+        any_record, bits_in, first_taking_less, inspect_page, longest_of, naming, record_for, RECORDS,
     };
     use crate::cases::pages::{
-        any_first, filled_page, first_page, page_of, second_page, with_byte, with_flip, with_value, with_word,
+        any_first, filled_page, first_page, page_of, second_page, with_byte, with_flip, with_length, with_value,
+        with_word,
     };
     use crate::cases::words::{any_value, END_VALUES, LISTED_VALUES, ODD_VALUE, SPARSE_VALUE};
-    use crate::page::{fill_page, page_capacity, read_first, read_second, words_of, write_first, write_second};
+    use crate::page::{fill_page, known_shape, page_capacity, read_first, read_second, write_first, write_second};
     use crate::random::Random;
-    use crate::shape::LARGE;
+    use crate::shape::{Shape, LARGE, SMALL};
     use crate::word::{cells_with_sum, legal_word, CELLS, LARGEST_SUM, LARGEST_VALUE};
     use std::collections::HashSet;
 
@@ -267,7 +261,7 @@ mod tests {
 
     /// What read inspect gives: the record, or the refusal; output after the record is unchanged.
     fn record_of(page: &[u8]) -> Result<Vec<u8>, Refusal> {
-        let mut output = vec![0xA5; INSPECT_BYTES_MOST + 1];
+        let mut output = vec![0xA5; LARGE.inspect_bytes_most + 1];
         let length = read_inspect(page, &mut output)? as usize;
         assert!(output[length..].iter().all(|&byte| byte == 0xA5));
         output.truncate(length);
@@ -277,7 +271,8 @@ mod tests {
     /// Writes the record over a copy of the page and reads it back. No cell of any byte is cleared.
     fn outcome(first: &[u8], record: &[u8]) -> Vec<u8> {
         let page = inspect_page(first, record);
-        assert_eq!(page[..3], [0x09, record.len() as u8, 0]);
+        assert_eq!(page[..3], [0x09, (record.len() % 256) as u8, (record.len() / 256) as u8]);
+        assert!(page[known_shape(&page).tail()].iter().all(|&byte| byte == 0));
         assert!(first.iter().zip(&page).all(|(before, after)| before & !after == 0));
         assert_eq!(record_of(&page), Ok(record.to_vec()));
         page
@@ -290,54 +285,95 @@ mod tests {
         assert_eq!(page, first);
     }
 
-    /// "so 126 bytes always go in", 127 not always; 247 go into some page, 248 into none.
+    /// "so 126 bytes always go in", 127 not always; 247 go into some page, 248 into none. "Inspect on the large page can hold
+    /// 495 bytes", "253 bytes always go in".
     #[test]
-    fn the_figures_of_change_7() {
-        let zeros = page_of(SMALL, 0);
-        outcome(&zeros, &[0xFF; 126]);
-        check_refused(&zeros, &[0xFF; 127], 1_012);
-        outcome(&zeros, &[0; 247]);
-        check_refused(&zeros, &[0; 248], 1_980);
-        assert_eq!((INSPECT_BYTES_SURE, INSPECT_BYTES_MOST), (23 * SMALL.words / 8, 45 * SMALL.words / 8));
+    fn the_figures_of_changes_7_and_9() {
+        for (shape, sure, least, most, longest) in [(SMALL, 126, 1_012, 247, 1_980), (LARGE, 253, 2_024, 495, 3_960)] {
+            let zeros = page_of(shape, 0);
+            outcome(&zeros, &vec![0xFF; sure]);
+            check_refused(&zeros, &vec![0xFF; sure + 1], least);
+            outcome(&zeros, &vec![0; most]);
+            check_refused(&zeros, &vec![0; most + 1], longest);
+            assert_eq!((shape.inspect_bytes_sure(), shape.inspect_bytes_most), (sure, most));
+        }
     }
 
     /// Pages of one value, with what a record of zeros takes of a word; a record of ones takes 23 bits of each.
     #[test]
     fn pages_of_one_value() {
-        for (value, bits) in [(0, 45), (1, 45), (2, 45), (3, 44), (SPARSE_VALUE, 30), (ODD_VALUE, 23)] {
-            let first = page_of(SMALL, value);
+        let values = [(0, 45), (1, 45), (2, 45), (3, 44), (SPARSE_VALUE, 30), (ODD_VALUE, 23)];
+        for (shape, (value, bits)) in Shape::BOTH.into_iter().flat_map(|shape| values.map(|value| (shape, value))) {
+            let first = page_of(shape, value);
             for (byte, bits) in [(0x00, bits), (0xFF, 23)] {
-                let most = SMALL.words * bits / 8;
+                let most = shape.words * bits / 8;
                 outcome(&first, &vec![byte; most]);
-                for length in [most + 1, 256, 1_000, 65_700] {
-                    check_refused(&first, &vec![byte; length], SMALL.words * bits);
+                for length in [most + 1, 512, 1_000, 65_536, 65_700] {
+                    check_refused(&first, &vec![byte; length], shape.words * bits);
                 }
             }
         }
     }
 
+    /// What always goes in does so over any page, of ones as well; what one byte more takes is between the ends.
     #[test]
     fn any_pages_and_records() {
         let mut random = Random::new(2);
-        for turn in 0..300 {
-            let first = any_first(&mut random, SMALL);
-            let record = RECORDS[turn % RECORDS.len()](&mut random, INSPECT_BYTES_MOST + 1);
-            outcome(&first, &record[..INSPECT_BYTES_SURE]);
+        for (turn, shape) in Shape::BOTH.repeat(300).into_iter().enumerate() {
+            let first = any_first(&mut random, shape);
+            let record = RECORDS[turn / 2 % RECORDS.len()](&mut random, shape.inspect_bytes_most + 1);
+            outcome(&first, &record[..shape.inspect_bytes_sure()]);
+            outcome(&first, &vec![0xFF; shape.inspect_bytes_sure()]);
             let longest = longest_of(&first, record.clone());
             outcome(&first, &longest);
             let answer = write_inspect(&mut first.clone(), &record[..=longest.len()]);
             assert_eq!(answer, write_inspect(&mut first.clone(), &record));
             let taken = answer.expect_err("one byte more").index as usize;
-            assert!(taken / 8 == longest.len() && (23 * SMALL.words..=45 * SMALL.words).contains(&taken));
+            let [least, most] = shape.walk_ends();
+            assert!(taken / 8 == longest.len() && (least..=most).contains(&taken));
         }
     }
 
     /// Every record length over a page that takes all of them.
     #[test]
     fn every_record_length() {
-        let first = page_of(SMALL, 0);
-        for length in 0..=INSPECT_BYTES_MOST {
-            outcome(&first, &vec![0; length]);
+        for (shape, most) in [(SMALL, 247), (LARGE, 495)] {
+            let first = page_of(shape, 0);
+            (0..=most).for_each(|length| drop(outcome(&first, &vec![0; length])));
+        }
+    }
+
+    /// A record that ends in the first 44 words of a large page leaves there what it leaves on a page of 256 bytes, and the
+    /// other words as they were.
+    #[test]
+    fn records_in_the_first_half() {
+        let mut random = Random::new(9);
+        for _ in 0..50 {
+            let first = any_first(&mut random, LARGE);
+            let record = record_for(&mut random, &first[..256], 0);
+            let page = outcome(&first, &record);
+            assert_eq!(page[..256], outcome(&first[..256], &record));
+            assert_eq!(page[256..], first[256..]);
+        }
+    }
+
+    /// A record that goes into no page of 256 bytes: its bits go on in word 44, as on a page of the last 44 words.
+    #[test]
+    fn records_in_both_halves() {
+        let mut random = Random::new(10);
+        for turn in 0..50 {
+            let first = any_first(&mut random, LARGE);
+            let record = longest_of(&first, RECORDS[turn % RECORDS.len()](&mut random, 495));
+            let words = words_of(&outcome(&first, &record));
+            let mut bits = bits_of(&record);
+            for (half, start) in [0, 44].into_iter().enumerate() {
+                let mut wanted: Words = words_of(&first)[start..start + 44].to_vec();
+                for cells in &mut wanted {
+                    put_bits(cells, &mut bits);
+                }
+                assert_eq!(words[start..start + 44], wanted, "half {half}");
+            }
+            assert_eq!(bits.next(), None);
         }
     }
 
@@ -345,8 +381,8 @@ mod tests {
     #[test]
     fn a_record_of_length_0() {
         let mut random = Random::new(3);
-        for _ in 0..50 {
-            let first = any_first(&mut random, SMALL);
+        for shape in Shape::BOTH.repeat(50) {
+            let first = any_first(&mut random, shape);
             assert_eq!(outcome(&first, &[]), with_byte(first, 0, 0x09));
         }
     }
@@ -355,11 +391,11 @@ mod tests {
     #[test]
     fn cells_after_the_last_bit() {
         let mut random = Random::new(4);
-        for _ in 0..50 {
-            let first = any_first(&mut random, SMALL);
+        for shape in Shape::BOTH.repeat(50) {
+            let first = any_first(&mut random, shape);
             let page = outcome(&first, &record_for(&mut random, &first, 1));
             let (before, after) = (words_of(&first).concat(), words_of(&page).concat());
-            let walks = walks(&words_of(&page), 8 * usize::from(page[1]));
+            let walks = walks_of(&page);
             let last = walks.iter().rposition(|steps| !steps.is_empty()).expect("a record of one byte at least");
             let end = CELLS * last + walks[last].last().expect("a bit").next;
             assert_eq!(before[end..], after[end..]);
@@ -370,9 +406,9 @@ mod tests {
     #[test]
     fn different_records_give_different_pages() {
         let mut random = Random::new(5);
-        for _ in 0..20 {
-            let first = any_first(&mut random, SMALL);
-            let length = random.between(1, INSPECT_BYTES_SURE);
+        for shape in Shape::BOTH.repeat(20) {
+            let first = any_first(&mut random, shape);
+            let length = random.between(1, shape.inspect_bytes_sure());
             let record = any_record(&mut random, length);
             let others = (0..8 * record.len()).map(|bit| with_flip(record.clone(), bit));
             let shorter = record[..record.len() - 1].to_vec();
@@ -386,13 +422,13 @@ mod tests {
     #[test]
     fn an_accepted_page_comes_from_a_first_round_page() {
         let mut random = Random::new(6);
-        for _ in 0..100 {
-            let first = any_first(&mut random, SMALL);
+        for shape in Shape::BOTH.repeat(100) {
+            let first = any_first(&mut random, shape);
             let page = inspect_page(&first, &record_for(&mut random, &first, 0));
-            let page = with_flip(page, random.between(24, 8 * SMALL.bytes - 1));
+            let page = with_flip(page, random.between(24, 8 * shape.bytes - 1));
             let Ok(record) = record_of(&page) else { continue };
             let words = words_of(&page);
-            let mut first = with_byte(with_byte(page.clone(), 0, 0x01), 1, 0);
+            let mut first = with_length(with_byte(page.clone(), 0, 0x01), 0);
             put_words(&mut first, &without_pairs(&words, &walks(&words, 8 * record.len())));
             assert_eq!(outcome(&first, &record), page);
         }
@@ -401,80 +437,159 @@ mod tests {
     /// The writer refuses 1, 5, 6, 7 as read first does, whatever the record is, and leaves the page.
     #[test]
     fn the_writer_refuses_as_read_first() {
-        let mut random = Random::new(7);
-        let first = page_of(SMALL, 77);
-        let pair = with_word(first.clone(), 20, std::array::from_fn(|cell| cell == 8 || cell == 9));
-        let sum = with_word(pair.clone(), 43, cells_with_sum(LARGEST_SUM));
-        for (page, refusal) in [
-            (first[..255].to_vec(), Refusal::PAGE_LENGTH),
-            ([&first[..], &[0]].concat(), Refusal::PAGE_LENGTH),
-            (with_byte(sum.clone(), 0, 0x03), Refusal::STATE),
-            (with_byte(with_byte(sum.clone(), 0, 0x09), 1, 1), Refusal::STATE),
-            (with_byte(sum.clone(), 1, 1), Refusal::HEADER),
-            (with_byte(sum.clone(), 2, 1), Refusal::HEADER),
-            (sum, Refusal::word(20)),
-            (pair, Refusal::word(20)),
-            (with_word(first.clone(), 0, cells_with_sum(LARGEST_VALUE + 1)), Refusal::word(0)),
-        ] {
-            assert_eq!(read_first(&page, &mut []), Err(refusal));
-            for length in [0, 1, 126, 248, 1_000] {
-                let mut after = page.clone();
-                assert_eq!(write_inspect(&mut after, &any_record(&mut random, length)), Err(refusal));
-                assert_eq!(after, page);
+        for (shape, index) in [(SMALL, 20), (LARGE, 43), (LARGE, 44)] {
+            let first = page_of(shape, 77);
+            let pair = with_word(first.clone(), index, std::array::from_fn(|cell| cell == 8 || cell == 9));
+            let sum = with_word(pair.clone(), shape.words - 1, cells_with_sum(LARGEST_SUM));
+            for (page, refusal) in [
+                (first[..shape.bytes - 1].to_vec(), Refusal::PAGE_LENGTH),
+                ([&first[..], &[0]].concat(), Refusal::PAGE_LENGTH),
+                (with_byte(sum.clone(), 0, 0x03), Refusal::STATE),
+                (with_length(with_byte(sum.clone(), 0, 0x09), 1), Refusal::STATE),
+                (with_byte(sum.clone(), 1, 1), Refusal::HEADER),
+                (with_byte(sum.clone(), 2, 1), Refusal::HEADER),
+                (with_length(sum.clone(), 0xFF01), Refusal::HEADER),
+                (sum, Refusal::word(index)),
+                (pair, Refusal::word(index)),
+                (with_word(first.clone(), 0, cells_with_sum(LARGEST_VALUE + 1)), Refusal::word(0)),
+            ] {
+                check_as_read_first(&page, refusal);
             }
+        }
+        let first = page_of(LARGE, 77);
+        (509..512).for_each(|place| check_as_read_first(&with_byte(first.clone(), place, 1), Refusal::HEADER));
+    }
+
+    /// The writer and read first refuse this page by the same, whatever the record is, and the page stays.
+    fn check_as_read_first(page: &[u8], refusal: Refusal) {
+        let mut random = Random::new(7);
+        assert_eq!(read_first(page, &mut []), Err(refusal));
+        for length in [0, 1, 126, 248, 496, 1_000] {
+            let mut after = page.to_vec();
+            assert_eq!(write_inspect(&mut after, &any_record(&mut random, length)), Err(refusal));
+            assert_eq!(after, page);
         }
     }
 
     /// Each refusal of the reader before the next one, and the output stays.
     #[test]
     fn the_reader_refuses_in_order() {
-        let page = inspect_page(&page_of(SMALL, SPARSE_VALUE), &[0; 165]);
-        let long = with_byte(page.clone(), 1, 166);
-        let word = with_word(long.clone(), 43, cells_with_sum(LARGEST_SUM));
-        let header = with_byte(word.clone(), 2, 1);
-        let state = with_byte(header.clone(), 0, 0x07);
-        for (page, refusal) in [
-            (state[..255].to_vec(), Refusal::PAGE_LENGTH),
-            (state, Refusal::STATE),
-            (header, Refusal::HEADER),
-            (with_byte(word.clone(), 1, 248), Refusal::HEADER),
-            (word, Refusal::word(43)),
-            (long, Refusal::DATA_CELLS),
-            (page.clone(), Refusal::OUTPUT_LENGTH),
-        ] {
-            let mut output = [0xA5; 164];
-            assert_eq!(read_inspect(&page, &mut output), Err(refusal));
-            assert_eq!(output, [0xA5; 164]);
+        for (shape, fits) in [(SMALL, 165), (LARGE, 330)] {
+            let page = inspect_page(&page_of(shape, SPARSE_VALUE), &vec![0; fits]);
+            let long = with_length(page.clone(), fits + 1);
+            let word = with_word(long.clone(), shape.words - 1, cells_with_sum(LARGEST_SUM));
+            let header = with_byte(word.clone(), 2, 2);
+            let state = with_byte(header.clone(), 0, 0x07);
+            for (page, refusal) in [
+                (state[..shape.bytes - 1].to_vec(), Refusal::PAGE_LENGTH),
+                (state, Refusal::STATE),
+                (header, Refusal::HEADER),
+                (with_length(word.clone(), shape.inspect_bytes_most + 1), Refusal::HEADER),
+                (word, Refusal::word(shape.words - 1)),
+                (long, Refusal::DATA_CELLS),
+                (page.clone(), Refusal::OUTPUT_LENGTH),
+            ] {
+                let mut output = vec![0xA5; fits - 1];
+                assert_eq!(read_inspect(&page, &mut output), Err(refusal));
+                assert_eq!(output, vec![0xA5; fits - 1]);
+            }
+            assert_eq!(record_of(&page), Ok(vec![0; fits]));
         }
-        assert_eq!(record_of(&page), Ok(vec![0; 165]));
     }
 
     /// The walks end one bit before the length, or reach it with their last bit.
     #[test]
     fn a_length_one_bit_too_large() {
-        for (fewer, wanted) in [(4, Ok(vec![0; 247])), (5, Err(Refusal::DATA_CELLS))] {
-            let page = with_byte(with_byte(first_taking_less(fewer), 0, 0x09), 1, 247);
-            assert_eq!(record_of(&page), wanted);
+        for (shape, most, spare) in [(SMALL, 247, 4), (LARGE, 495, 0)] {
+            for (fewer, wanted) in [(spare, Ok(vec![0; most])), (spare + 1, Err(Refusal::DATA_CELLS))] {
+                assert_eq!(record_of(&naming(&first_taking_less(shape, fewer), most)), wanted);
+            }
+            outcome(&first_taking_less(shape, spare), &vec![0; most]);
+            check_refused(&first_taking_less(shape, spare + 1), &vec![0; most], 8 * most - 1);
         }
-        outcome(&first_taking_less(4), &[0; 247]);
-        check_refused(&first_taking_less(5), &[0; 247], 1_975);
+    }
+
+    /// "a length above the limit of that code and page": every length of two bytes, over words that take all of them and over
+    /// words that take the fewest.
+    #[test]
+    fn every_length_of_two_bytes() {
+        for (shape, value, fits, most) in
+            [(SMALL, 0, 247, 247), (SMALL, ODD_VALUE, 126, 247), (LARGE, 0, 495, 495), (LARGE, ODD_VALUE, 253, 495)]
+        {
+            let page = naming(&page_of(shape, value), 0);
+            for length in (0..=1_100).chain((0..=65_535).step_by(251)).chain([65_535]) {
+                let wanted = match length {
+                    _ if length <= fits => Ok(vec![0; length]),
+                    _ if length <= most => Err(Refusal::DATA_CELLS),
+                    _ => Err(Refusal::HEADER),
+                };
+                assert_eq!(record_of(&with_length(page.clone(), length)), wanted, "{length}");
+            }
+        }
+    }
+
+    /// Bytes 509 to 511 of a large page, each with every value, under lengths of one byte and of two: 6 comes before 7.
+    #[test]
+    fn bytes_509_to_511() {
+        for (length, word) in [(60, 87), (300, 87), (495, 0)] {
+            let page = inspect_page(&page_of(LARGE, 0), &vec![0; length]);
+            let bad = with_word(page.clone(), word, cells_with_sum(LARGEST_SUM));
+            assert_eq!(record_of(&bad), Err(Refusal::word(word)));
+            for (place, byte) in (509..512).flat_map(|place| (1..=255).map(move |byte| (place, byte))) {
+                for page in [&page, &bad] {
+                    assert_eq!(record_of(&with_byte(page.clone(), place, byte)), Err(Refusal::HEADER));
+                }
+            }
+        }
+    }
+
+    /// A word that is not legal in each place, by the reader and by the writer; with one in the other half too, the lower one
+    /// is told.
+    #[test]
+    fn every_word_of_a_large_page() {
+        let first = page_of(LARGE, 77);
+        for (index, cells) in (0..88).flat_map(|index| [(index, [true; CELLS]), (index, cells_with_sum(LARGEST_SUM))]) {
+            let page = with_word(first.clone(), index, cells);
+            let two = with_word(page.clone(), (index + 44) % 88, [true; CELLS]);
+            for (page, lowest) in [(page, index), (two, index % 44)] {
+                let refused = Err(Refusal::word(lowest));
+                assert_eq!(write_inspect(&mut page.clone(), &[0; 496]), refused);
+                assert_eq!(read_inspect(&naming(&page, 0), &mut []), refused);
+            }
+        }
+    }
+
+    /// Where the words of one half take fewer bits, the walks end before a length all the same as where those of the other
+    /// do.
+    #[test]
+    fn walks_that_end_in_either_half() {
+        for values in [[ODD_VALUE, 0], [0, ODD_VALUE]] {
+            let first = first_page(&values.map(|value| [value; 44]).concat());
+            assert_eq!(bits_in(&first), 44 * (23 + 45));
+            assert_eq!(record_of(&naming(&first, 374)), Ok(vec![0; 374]));
+            assert_eq!(record_of(&naming(&first, 375)), Err(Refusal::DATA_CELLS));
+            outcome(&first, &[0; 374]);
+            check_refused(&first, &[0; 375], 2_992);
+        }
     }
 
     /// Over the page of zeros, 20 zero bytes end before cell 25 of word 3: two neighbours before it are a bit 1 and take a
     /// bit of the record's end with them; after it they are refused.
     #[test]
     fn neighbours_before_and_after_the_last_bit() {
-        let page = outcome(&page_of(SMALL, 0), &[0; 20]);
-        for (index, cell) in (0..SMALL.words).flat_map(|index| (0..CELLS - 1).map(move |cell| (index, cell))) {
-            let place = CELLS * index + cell;
-            let pair = with_flip(with_flip(page.clone(), 24 + place), 24 + place + 1);
-            let read = record_of(&pair);
-            // Cell 45 takes no bit.
-            let bit = 45 * index + cell;
-            if bit < 160 {
-                assert_eq!(read, Ok(with_flip(vec![0; 20], bit)), "word {index}, cell {cell}");
-            } else {
-                assert_eq!(read, Err(Refusal::word(index)), "word {index}, cell {cell}");
+        for (shape, length) in [(SMALL, 20), (LARGE, 20), (LARGE, 248), (LARGE, 256)] {
+            let page = outcome(&page_of(shape, 0), &vec![0; length]);
+            for (index, cell) in (0..shape.words).flat_map(|index| (0..CELLS - 1).map(move |cell| (index, cell))) {
+                let place = CELLS * index + cell;
+                let pair = with_flip(with_flip(page.clone(), 24 + place), 24 + place + 1);
+                let read = record_of(&pair);
+                // Cell 45 takes no bit.
+                let bit = 45 * index + cell;
+                if bit < 8 * length {
+                    assert_eq!(read, Ok(with_flip(vec![0; length], bit)), "word {index}, cell {cell}");
+                } else {
+                    assert_eq!(read, Err(Refusal::word(index)), "word {index}, cell {cell}");
+                }
             }
         }
     }
@@ -482,13 +597,16 @@ mod tests {
     /// A word of even cells: its sum is too large, read or not. With a pair over every two cells it is accepted when read.
     #[test]
     fn sums_too_large() {
-        let page = outcome(&page_of(SMALL, 0), &[0; 20]);
         let even = cells_with_sum(LARGEST_SUM);
         let full: Cells = [true; CELLS];
-        for index in [0, 1, 2, 3, 4, 43] {
+        let small = [0, 1, 2, 3, 4, 43].map(|index| (SMALL, 20, 3, index));
+        // 256 zero bytes end in word 45.
+        let large = [0, 43, 44, 45, 46, 87].map(|index| (LARGE, 256, 45, index));
+        for (shape, length, last, index) in small.into_iter().chain(large) {
+            let page = outcome(&page_of(shape, 0), &vec![0; length]);
             assert_eq!(record_of(&with_word(page.clone(), index, even)), Err(Refusal::word(index)));
-            let read = record_of(&with_word(page.clone(), index, full));
-            assert_eq!(read.is_ok(), index <= 3, "word {index}: {read:?}");
+            let read = record_of(&with_word(page, index, full));
+            assert_eq!(read.is_ok(), index <= last, "word {index}: {read:?}");
         }
     }
 
@@ -510,72 +628,77 @@ mod tests {
     /// "5 for a state other than 09", and the other operations refuse state 09 by 5.
     #[test]
     fn pages_of_other_states() {
-        let first = page_of(SMALL, SPARSE_VALUE);
-        let page = outcome(&first, &[]);
-        for state in 0..=255 {
-            let other = with_byte(first.clone(), 0, state);
-            let written = write_inspect(&mut other.clone(), &[0; 126]);
-            assert_eq!(written, if state == 0x01 { Ok(0) } else { Err(Refusal::STATE) });
-            let read = read_inspect(&other, &mut []);
-            assert_eq!(read, if state == 0x09 { Ok(0) } else { Err(Refusal::STATE) });
-        }
-        for other in [filled_page(&first), second_page(&first, &[1; 82])] {
-            assert_eq!(write_inspect(&mut other.clone(), &[]), Err(Refusal::STATE));
-            assert_eq!(read_inspect(&other, &mut []), Err(Refusal::STATE));
-        }
-        assert_eq!(page_capacity(&page), Err(Refusal::STATE));
-        assert_eq!(fill_page(&mut page.clone()), Err(Refusal::STATE));
-        assert_eq!(write_second(&mut page.clone(), &[]), Err(Refusal::STATE));
-        assert_eq!(read_second(&page, &mut []), Err(Refusal::STATE));
-        assert_eq!(read_first(&page, &mut [0; 176]), Err(Refusal::STATE));
-        assert_eq!(write_first(&mut page.clone(), &[0; 176]), Err(Refusal::NOT_BLANK));
-    }
-
-    /// "for Inspect still not 256": every page of 512 bytes is refused 1, in every state, whatever else would be refused,
-    /// and what the code would leave there as well. Nothing is written.
-    #[test]
-    fn pages_of_512_bytes() {
-        let first = page_of(LARGE, SPARSE_VALUE);
-        let pages = [
-            filled_page(&first),
-            second_page(&first, &[0x96; 165]),
-            large_inspect(&first, &[0x96; 126]),
-            large_inspect(&first, &[]),
-            [&inspect_page(&page_of(SMALL, 0), &[0; 247])[..], &[0; 256]].concat(),
-            [&page_of(SMALL, 0)[..], &[0xFF; 256]].concat(),
-            vec![0; 512],
-            first,
-        ];
-        for (page, state) in pages.into_iter().flat_map(|page| (0..=255).map(move |state| (page.clone(), state))) {
-            let page = with_byte(page, 0, state);
-            for length in [0, 126, 600] {
-                let (mut written, mut output) = (page.clone(), vec![0xA5; length]);
-                assert_eq!(write_inspect(&mut written, &vec![0x96; length]), Err(Refusal::PAGE_LENGTH));
-                assert_eq!(read_inspect(&page, &mut output), Err(Refusal::PAGE_LENGTH));
-                assert_eq!((written, output), (page.clone(), vec![0xA5; length]));
+        for first in Shape::BOTH.map(|shape| page_of(shape, SPARSE_VALUE)) {
+            for state in 0..=255 {
+                let other = with_byte(first.clone(), 0, state);
+                let written = write_inspect(&mut other.clone(), &[0; 126]);
+                assert_eq!(written, if state == 0x01 { Ok(0) } else { Err(Refusal::STATE) });
+                let read = read_inspect(&other, &mut []);
+                assert_eq!(read, if state == 0x09 { Ok(0) } else { Err(Refusal::STATE) });
+            }
+            for other in [filled_page(&first), second_page(&first, &[1; 82])] {
+                assert_eq!(write_inspect(&mut other.clone(), &[]), Err(Refusal::STATE));
+                assert_eq!(read_inspect(&other, &mut []), Err(Refusal::STATE));
             }
         }
     }
 
-    /// The first 256 bytes of a larger page are a page of 256 bytes.
+    /// The other operations refuse state 09 by 5, under lengths of one byte and of two.
     #[test]
-    fn a_large_page_that_is_cut() {
-        let first = page_of(LARGE, 77);
-        assert_eq!(outcome(&first[..256], &[0x96; 126]), inspect_page(&page_of(SMALL, 77), &[0x96; 126]));
-        assert_eq!(large_inspect(&first, &[0x96; 126])[..256], inspect_page(&page_of(SMALL, 77), &[0x96; 126]));
-    }
-
-    /// "5 for a state other than 09": the other operations refuse state 09 on 512 bytes as well.
-    #[test]
-    fn state_09_on_512_bytes() {
-        for length in [0, 60, 247] {
-            let page = large_inspect(&page_of(LARGE, 0), &vec![0; length]);
+    fn state_09_for_the_other_operations() {
+        for (shape, length) in [(SMALL, 0), (SMALL, 247), (LARGE, 0), (LARGE, 60), (LARGE, 247), (LARGE, 300)] {
+            let page = outcome(&page_of(shape, 0), &vec![0; length]);
             assert_eq!(page_capacity(&page), Err(Refusal::STATE));
             assert_eq!(fill_page(&mut page.clone()), Err(Refusal::STATE));
             assert_eq!(write_second(&mut page.clone(), &[]), Err(Refusal::STATE));
             assert_eq!(read_second(&page, &mut []), Err(Refusal::STATE));
             assert_eq!(read_first(&page, &mut [0; 352]), Err(Refusal::STATE));
-            assert_eq!(write_first(&mut page.clone(), &[0; 352]), Err(Refusal::NOT_BLANK));
+            assert_eq!(write_first(&mut page.clone(), &vec![0; shape.first_bytes]), Err(Refusal::NOT_BLANK));
+        }
+    }
+
+    /// The first 256 bytes of a larger page are a page of 256 bytes when its record ends there and is no longer than such a
+    /// page may have; else the length is too large, for the walks or at all.
+    #[test]
+    fn a_large_page_that_is_cut() {
+        let first = page_of(LARGE, 77);
+        assert_eq!(outcome(&first, &[0x96; 126])[..256], outcome(&page_of(SMALL, 77), &[0x96; 126]));
+        for (record, wanted) in [
+            (vec![0; 247], Ok(vec![0; 247])),
+            (vec![0; 248], Err(Refusal::HEADER)),
+            (vec![0; 256], Err(Refusal::HEADER)),
+            (vec![0; 300], Err(Refusal::HEADER)),
+            (vec![0xFF; 127], Err(Refusal::DATA_CELLS)),
+        ] {
+            assert_eq!(record_of(&outcome(&page_of(LARGE, 0), &record)[..256]), wanted);
+        }
+    }
+
+    /// A page of 256 bytes before zeros is one of 512 bytes with the same record; before ones it is refused, for bytes 509 to
+    /// 511 or for word 44.
+    #[test]
+    fn a_small_page_before_others() {
+        for record in [vec![], vec![0x96; 126], vec![0; 247]] {
+            let page = outcome(&page_of(SMALL, 0), &record);
+            let before = |after: &[u8]| record_of(&[&page[..], after].concat());
+            assert_eq!(before(&[0; 256]), Ok(record.clone()));
+            assert_eq!(before(&[0xFF; 256]), Err(Refusal::HEADER));
+            assert_eq!(before(&[vec![0xFF; 253], vec![0; 3]].concat()), Err(Refusal::word(44)));
+        }
+    }
+
+    /// "Every page written earlier has byte 2 at 0 and reads with the same length": on 256 bytes, by the rules of Change 7.
+    #[test]
+    fn pages_written_earlier() {
+        let mut random = Random::new(8);
+        for _ in 0..200 {
+            let first = any_first(&mut random, SMALL);
+            let record = record_for(&mut random, &first, 0);
+            let page = outcome(&first, &record);
+            assert_eq!((usize::from(page[1]), page[2]), (record.len(), 0));
+            for byte_2 in [1, 2, 0x80, 0xFF] {
+                assert_eq!(record_of(&with_byte(page.clone(), 2, byte_2)), Err(Refusal::HEADER));
+            }
         }
     }
 }

@@ -1,9 +1,9 @@
-//! The listing of document 01, with the kind of Change 2 and the state of Change 7, as a function from bytes to text;
-//! and what the gain sheet goes by as well: the pieces of the input, and the kind and the number of each. By Change 8 both
-//! "stay with 256 bytes".
+//! The listing of document 01, with the kind of Change 2, the state of Change 7 and the length of Change 9, as a function
+//! from bytes to text; and what the gain sheet goes by as well: the pieces of the input, and the kind and the number of
+//! each. By Change 8 both "stay with 256 bytes".
 
 use crate::answer::Answer;
-use crate::inspect::{read_inspect, INSPECT_BYTES_MOST};
+use crate::inspect::read_inspect;
 use crate::page::{self, BLANK, FILLED, FIRST_ROUND, INSPECTED, SECOND_ROUND};
 use crate::shape::SMALL;
 use std::fmt::{self, Display, Formatter};
@@ -80,7 +80,7 @@ pub fn described(piece: &[u8]) -> Described {
         FILLED => accepted(Kind::Filled, page::page_capacity(piece)),
         SECOND_ROUND => accepted(Kind::Second, page::read_second(piece, &mut [0; SMALL.second_bytes_most])),
         // "The listing and the gain sheet count state 09 as second."
-        INSPECTED => accepted(Kind::Second, read_inspect(piece, &mut [0; INSPECT_BYTES_MOST])),
+        INSPECTED => accepted(Kind::Second, read_inspect(piece, &mut [0; SMALL.inspect_bytes_most])),
         _ => bad(5),
     }
 }
@@ -171,6 +171,7 @@ mod tests {
             (1, 247, "0 bad 9\n"),
             (1, 248, "0 bad 6\n"),
             (2, 1, "0 bad 6\n"),
+            (2, 255, "0 bad 6\n"),
             (255, 0xFF, "0 bad 7\n"),
             (0, 0x08, "0 bad 5\n"),
             (0, 0x0B, "0 bad 5\n"),
@@ -192,11 +193,39 @@ mod tests {
         assert_eq!(listing(&page), "0 filled 1012\n1 bad 5\n");
         page::write_second(&mut page, &[0; 253]).unwrap();
         assert_eq!(listing(&page), "0 bad 6\n1 bad 5\n");
+        // By the Inspect code the first 44 words take 1,980 zeros: a record of up to 247 bytes ends in them.
+        for (length, line) in [(0, "second 0"), (247, "second 247"), (248, "bad 6"), (256, "bad 6"), (495, "bad 6")] {
+            let mut page = vec![0; 512];
+            page::write_first(&mut page, &[0; 352]).unwrap();
+            write_inspect(&mut page, &vec![0; length]).unwrap();
+            assert_eq!(listing(&page), format!("0 {line}\n1 blank 0\n"));
+        }
         // Cell 7 of word 44 is the lowest bit of byte 256.
         let mut page = vec![0; 512];
         page::write_first(&mut page, &[&[0; 176][..], &[0x06, 0x19, 0x7E, 0xCB], &[0; 172]].concat()).unwrap();
         assert_eq!(page[256..], [&[1][..], &[0; 255]].concat());
         assert_eq!(listing(&page), "0 first 1012\n1 first 1012\n");
+    }
+
+    /// On 256 bytes every length with a byte 2 is above the limit of both codes: with byte 1 at 0 as well, and within what
+    /// 512 bytes take.
+    #[test]
+    fn lengths_of_two_bytes() {
+        let mut first = vec![0; SMALL.bytes];
+        page::write_first(&mut first, &[0; 176]).unwrap();
+        let mut second = first.clone();
+        page::fill_page(&mut second).unwrap();
+        page::write_second(&mut second, &[]).unwrap();
+        let mut inspect = first;
+        write_inspect(&mut inspect, &[]).unwrap();
+        for (mut piece, byte_1) in
+            [second, inspect].into_iter().flat_map(|page| (0..=255).map(move |byte| (page.clone(), byte)))
+        {
+            for byte_2 in 1..=255 {
+                piece[1..3].copy_from_slice(&[byte_1, byte_2]);
+                assert_eq!(listing(&piece), "0 bad 6\n", "{byte_1} {byte_2}");
+            }
+        }
     }
 
     #[test]

@@ -1,7 +1,6 @@
 //! The page of either size and its operations, but for those of the Inspect code.
 
 use crate::answer::{refuse_if, Answer, Refusal};
-use crate::inspect::INSPECT_BYTES_MOST;
 use crate::shape::Shape;
 use crate::word::{self, Cells, CELLS};
 
@@ -74,20 +73,30 @@ pub fn refuse_word(words: &[Cells], sound: fn(&Cells) -> bool) -> Result<(), Ref
     }
 }
 
-/// The most that byte 1 may be on a page in this state: what a second record of the state's code can have, and 0 in every
-/// other state.
+/// "The record length becomes two bytes, byte 1 low and byte 2 high."
+pub fn length_of(page: &[u8]) -> usize {
+    usize::from(u16::from_le_bytes([page[1], page[2]]))
+}
+
+/// Puts a record length into its two bytes.
+pub fn put_length(page: &mut [u8], length: usize) {
+    let length = u16::try_from(length).expect("a length of two bytes");
+    page[1..3].copy_from_slice(&length.to_le_bytes());
+}
+
+/// The most that the length may be on a page in this state: "the limit of that code and page", and 0 in every other state.
 pub fn longest_named(shape: Shape, state: u8) -> usize {
     match state {
         SECOND_ROUND => shape.second_bytes_most,
-        INSPECTED => INSPECT_BYTES_MOST,
+        INSPECTED => shape.inspect_bytes_most,
         _ => 0,
     }
 }
 
-/// Whether 6 is not for this page: byte 1 and byte 2 are in their ranges, and "6 covers bytes 509 to 511".
+/// Whether 6 is not for this page: it "means a length above the limit of that code and page", "or on 512 bytes one of
+/// bytes 509 to 511 not 0".
 fn header_sound(page: &[u8], shape: Shape) -> bool {
-    let named = usize::from(page[1]) <= longest_named(shape, page[0]);
-    named && page[2] == 0 && page[shape.tail()].iter().all(|&byte| byte == 0)
+    length_of(page) <= longest_named(shape, page[0]) && page[shape.tail()].iter().all(|&byte| byte == 0)
 }
 
 /// The words, not judged, of a page in this state; or the refusals 1, 5, 6.
@@ -192,7 +201,7 @@ pub fn write_second(page: &mut [u8], record: &[u8]) -> Answer {
     refuse_if(!fits(record, capacity), Refusal::record_length(capacity))?;
     put_record(&mut words, &data_cells, record);
     put_words(page, &words);
-    page[1] = record.len() as u8;
+    put_length(page, record.len());
     page[0] = SECOND_ROUND;
     Ok(0)
 }
@@ -208,12 +217,12 @@ pub fn put_record_out(bits: &[bool], output: &mut [u8]) -> Answer {
     Ok(length as u64)
 }
 
-/// Reads the record of a second-round page: "9 if 8 times byte 1 exceeds the number of data cells or a spare data cell
+/// Reads the record of a second-round page: 9 if 8 times the length "exceeds the number of data cells or a spare data cell
 /// is 1".
 pub fn read_second(page: &[u8], output: &mut [u8]) -> Answer {
     let words = second_round_words(page)?;
     let bits: Vec<bool> = data_cells_of(&words).into_iter().map(|(index, cell)| words[index][cell]).collect();
-    let count = 8 * usize::from(page[1]);
+    let count = 8 * length_of(page);
     refuse_if(count > bits.len() || bits[count..].contains(&true), Refusal::DATA_CELLS)?;
     put_record_out(&bits[..count], output)
 }
@@ -223,7 +232,7 @@ mod tests {
     use super::*;
     use crate::cases::pages::{
         any_first, any_record, filled_page_earlier, first_page, page_of, second_page_earlier, values_with_pulses,
-        with_byte, with_cell_45_flipped, with_value, with_word, without_separator,
+        with_byte, with_cell_45_flipped, with_length, with_value, with_word, without_separator,
     };
     use crate::cases::words::{never_sound, unwritten, END_VALUES, OPEN_SPARSE_VALUE, OPEN_VALUES, SPARSE_VALUE};
     use crate::random::Random;
@@ -264,7 +273,7 @@ mod tests {
             cells
         };
         let words: Words = words_of(first).iter().map(written).collect();
-        let mut page = vec![0x07, record.len() as u8, 0];
+        let mut page = vec![0x07, (record.len() % 256) as u8, (record.len() / 256) as u8];
         page.resize(first.len(), 0);
         put_words(&mut page, &words);
         page
@@ -601,6 +610,28 @@ mod tests {
         }
     }
 
+    /// "byte 1 low and byte 2 high".
+    #[test]
+    fn the_bytes_of_a_length() {
+        for (length, bytes) in
+            [(0, [0, 0]), (1, [1, 0]), (255, [255, 0]), (256, [0, 1]), (495, [239, 1]), (65_535, [255, 255])]
+        {
+            let mut page = vec![0xA5; 256];
+            put_length(&mut page, length);
+            assert_eq!(page, [&[0xA5][..], &bytes, &[0xA5; 253]].concat());
+            assert_eq!(length_of(&page), length);
+        }
+    }
+
+    /// "the limit of that code and page, which is 126 and 247, or 253 and 495", and 0 in other states.
+    #[test]
+    fn the_limits() {
+        for (shape, second, inspect) in [(SMALL, 126, 247), (LARGE, 253, 495)] {
+            assert_eq!((longest_named(shape, 0x07), longest_named(shape, 0x09)), (second, inspect));
+            assert!([0x00, 0x01, 0x03, 0x02, 0xFF].iter().all(|&state| longest_named(shape, state) == 0));
+        }
+    }
+
     /// Byte 1 and byte 2 of each state, at the ends of their ranges: 6 comes before 7.
     #[test]
     fn header_bytes() {
@@ -611,6 +642,8 @@ mod tests {
                 for (place, byte) in [(1, 1), (1, 82), (1, 126), (1, 253), (1, 255), (2, 1), (2, 0x80)] {
                     check_refused_6(&with_byte(page.clone(), place, byte));
                 }
+                // Together they are 0 by exclusive or, or as a sum in 8 bits.
+                [0x0101, 0xFF01].into_iter().for_each(|length| check_refused_6(&with_length(page.clone(), length)));
             }
             for page in with_bad_words(second.clone()) {
                 for (place, byte) in [(1, most + 1), (1, 255), (2, 1), (2, 0x80)] {
@@ -620,10 +653,10 @@ mod tests {
         }
     }
 
-    /// Every byte 1 over words of the most and of the least capacity without data: the length is read as far as it fits,
-    /// then there are too few data cells, then it is out of range.
+    /// Every length over words of the most and of the least capacity without data: it is read as far as it fits, then there
+    /// are too few data cells, then it is above the limit.
     #[test]
-    fn every_byte_1_of_a_second_round_page() {
+    fn every_length_of_a_second_round_page() {
         for (shape, value, fits, most) in [
             (SMALL, 0, 126, 126),
             (SMALL, SPARSE_VALUE, 82, 126),
@@ -631,10 +664,10 @@ mod tests {
             (LARGE, SPARSE_VALUE, 165, 253),
         ] {
             let page = outcome(&page_of(shape, value), &[]);
-            for length in 0..=255 {
-                let answer = read_second(&with_byte(page.clone(), 1, length), &mut [0; 255]);
+            for length in (0..=1_100).chain((0..=65_535).step_by(251)).chain([65_535]) {
+                let answer = read_second(&with_length(page.clone(), length), &mut [0; 255]);
                 let wanted = match length {
-                    _ if length <= fits => Ok(u64::from(length)),
+                    _ if length <= fits => Ok(length as u64),
                     _ if length <= most => Err(Refusal::DATA_CELLS),
                     _ => Err(Refusal::HEADER),
                 };
@@ -927,8 +960,8 @@ mod tests {
     }
 
     /// The first 256 bytes of a larger page are judged as a page of 256 bytes, whose words are the first 44: a first-round
-    /// page and a filled one are such pages. A second-round page is one when its record is short enough, and else byte 1 is
-    /// too large, for the data cells or at all.
+    /// page and a filled one are such pages. A second-round page is one when its record is short enough, and else the length
+    /// is too large, for the data cells or at all.
     #[test]
     fn a_large_page_that_is_cut() {
         let values: Vec<u32> = (0..88).map(|index| 1_000_003 * index).collect();

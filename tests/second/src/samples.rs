@@ -6,7 +6,6 @@ use crate::cases::words::{
     any_value, illegal, sum_too_large, value_with_pulses, with_bare_hole, with_hole, with_neighbours, Hole, EDGE_VALUE,
     ODD_VALUE, OPEN_ODD_VALUE, OPEN_SPARSE_VALUE, SPARSE_VALUE,
 };
-use crate::inspect::INSPECT_BYTES_MOST;
 use crate::listing::{described, Kind};
 use crate::page::{data_cells_of, words_of};
 use crate::random::Random;
@@ -88,7 +87,7 @@ pub fn alike(kind: Alike, count: usize) -> impl Iterator<Item = Vec<u8>> {
 
 /// The page of 176 zero bytes with a record of 247 zero bytes by the Inspect code.
 fn longest_inspect() -> Vec<u8> {
-    inspect_page(&page_of(SMALL, 0), &[0; INSPECT_BYTES_MOST])
+    inspect_page(&page_of(SMALL, 0), &[0; SMALL.inspect_bytes_most])
 }
 
 /// A second-round page with a record of 126 bytes.
@@ -223,9 +222,11 @@ fn bad_seconds(random: &mut Random) -> Vec<Vec<u8>> {
         with_byte(any_second(random, SMALL), 1, 127),
         with_byte(any_second(random, SMALL), 2, 0x80),
         with_byte(full.clone(), 1, 83),
-        with_data_cell(full, last_cell),
+        with_data_cell(full.clone(), last_cell),
     ];
-    [bad, holes.to_vec()].concat()
+    // Byte 1 alone would be a length of the page.
+    let lengths = [256, 256 + 82].map(|length| with_length(full.clone(), length));
+    [bad, holes.to_vec(), lengths.to_vec()].concat()
 }
 
 /// Filled pages with open words, and second-round pages over them with the longest records and one of 40 bytes; and the
@@ -271,7 +272,8 @@ fn lacking(random: &mut Random) -> Vec<Vec<u8>> {
 fn inspects(random: &mut Random) -> Vec<Vec<u8>> {
     let [most, sparse, odd] = [0, SPARSE_VALUE, ODD_VALUE].map(|value| page_of(SMALL, value));
     let fixed = [(&most, 0, 0), (&most, 1, 0xFF), (&most, 126, 0xFF), (&most, 127, 0x00), (&most, 247, 0x00)];
-    let others = [(&sparse, 165, 0x00), (&sparse, 126, 0xFF), (&odd, 126, 0x00), (&first_taking_less(4), 247, 0x00)];
+    let others =
+        [(&sparse, 165, 0x00), (&sparse, 126, 0xFF), (&odd, 126, 0x00), (&first_taking_less(SMALL, 4), 247, 0x00)];
     let fixed = fixed.into_iter().chain(others);
     let mut pages: Vec<_> = fixed.map(|(first, length, byte)| inspect_page(first, &vec![byte; length])).collect();
     for kind in RECORDS {
@@ -283,7 +285,7 @@ fn inspects(random: &mut Random) -> Vec<Vec<u8>> {
     pages
 }
 
-/// Pages of state 09 that are bad 6, bad 7 and bad 9: a header byte out of its range; a sum too large, read and not read;
+/// Pages of state 09 that are bad 6, bad 7 and bad 9: a length above the limit, by each of its bytes; a sum too large, read and not read;
 /// neighbours after the last bit, in its word and in the last one; a length one bit and more too large for the walks; and
 /// pages with two of these.
 fn bad_inspects(random: &mut Random) -> Vec<Vec<u8>> {
@@ -296,12 +298,14 @@ fn bad_inspects(random: &mut Random) -> Vec<Vec<u8>> {
     let neighbours = [(3, 25), (3, 44), (4, 0), (43, 44)];
     let pairs = neighbours.map(|(index, cell)| with_word(zeros.clone(), index, with_neighbours([false; CELLS], cell)));
     let ones = with_byte(inspect_page(&page_of(SMALL, 0), &[0xFF; 126]), 1, 125);
-    let one_bit = with_byte(inspect_page(&first_taking_less(5), &[0; 246]), 1, 247);
+    let one_bit = with_byte(inspect_page(&first_taking_less(SMALL, 5), &[0; 246]), 1, 247);
     let more = with_byte(inspect_page(&page_of(SMALL, SPARSE_VALUE), &[0; 165]), 1, 166);
     let sum_too = with_word(more.clone(), 43, sum);
     let header_too = with_byte(sum_too.clone(), 2, 1);
     let filled = with_byte(filled_page(&page_of(SMALL, 0)), 0, 0x09);
-    [&headers, &sums, &pairs, &[ones, one_bit, more, sum_too, header_too, filled][..]].concat()
+    // The walks reach 247 bytes; with byte 2 at 1, byte 1 alone would be a length that they reach too.
+    let lengths = [248, 256, 276, 495].map(|length| with_length(zeros.clone(), length));
+    [&headers, &sums, &pairs, &[ones, one_bit, more, sum_too, header_too, filled][..], &lengths].concat()
 }
 
 #[cfg(test)]
@@ -369,7 +373,7 @@ mod tests {
     /// The five counts are different from each other and from 0, and the gain is below 0.
     #[test]
     fn the_sheet_of_the_pages() {
-        assert_eq!(sheet(&sheet_pages()), "pages 118 blank 2 first 4 filled 15 second 33 bad 64 gain -9592\n");
+        assert_eq!(sheet(&sheet_pages()), "pages 124 blank 2 first 4 filled 15 second 33 bad 70 gain -9592\n");
         assert_eq!(GAIN, -9_592);
     }
 
@@ -441,7 +445,7 @@ mod tests {
     #[test]
     fn the_last_piece_of_the_sheet() {
         let pages = sheet_pages();
-        let (whole, last) = pages.split_at(117 * SMALL.bytes);
+        let (whole, last) = pages.split_at(123 * SMALL.bytes);
         assert_eq!((last.len(), whole.ends_with(&[0])), (SMALL.bytes - 1, true));
         assert_eq!(described(&[last, &[0]].concat()), Described { kind: Kind::First, number: 1_012 });
     }
@@ -473,8 +477,8 @@ mod tests {
         assert_eq!(gain(described(&page)), 1_336);
     }
 
-    /// Good and bad pages of state 09: each refusal of the reader, byte 1 and byte 2 each by itself, and the lengths at the
-    /// ends.
+    /// Good and bad pages of state 09: each refusal of the reader, byte 1 and byte 2 each by itself and both, and the lengths
+    /// at the ends.
     #[test]
     fn pages_of_state_09() {
         let pages = listing_pages();
@@ -484,9 +488,11 @@ mod tests {
             assert!(met.contains(&(length, 0, format!("second {length}"))), "{length}");
         }
         let bad = |number: u8| met.iter().filter(|(.., text)| *text == format!("bad {number}")).count();
-        assert_eq!((met.len(), bad(6), bad(7), bad(9)), (34, 5, 11, 2));
+        assert_eq!((met.len(), bad(6), bad(7), bad(9)), (38, 9, 11, 2));
         assert!(met.contains(&(248, 0, "bad 6".to_string())) && met.contains(&(255, 0, "bad 6".to_string())));
-        assert!(met.iter().any(|(length, byte, _)| *length <= 247 && *byte == 1));
+        for (byte_1, byte_2) in [(0, 1), (20, 1), (239, 1)] {
+            assert!(met.contains(&(byte_1, byte_2, "bad 6".to_string())), "{byte_1} {byte_2}");
+        }
     }
 
     #[test]

@@ -2,12 +2,13 @@
 
 mod inspect;
 mod large;
+mod large_inspect;
 
 use crate::answer::{number, value};
 use crate::call::{Call, Entry};
 use crate::cases::damage::{any_word_call, choices, combined};
 use crate::cases::files::CONTENTS;
-use crate::cases::lengths::{resized, wrong_page_lengths, FAR_RECORD_LENGTHS};
+use crate::cases::lengths::{resized, NO_PAGE_LENGTHS};
 use crate::cases::pages::*;
 use crate::cases::words::{
     any_value, sum_too_large, value_with_pulses, with_bare_hole, with_hole, with_neighbours, with_one_data_cell, Hole,
@@ -37,6 +38,14 @@ const OF_FIRST_PAGES: [Entry; 3] = [Entry::ReadFirst, Entry::PageCapacity, Entry
 /// The value whose word has cell 0 alone set, between its neighbours.
 const CELL_0_VALUES: [u32; 3] = [ODD_VALUE, 2_971_215_073, EDGE_VALUE];
 
+/// Record lengths that are too long for some code and size: about what one byte names, the longest of all, and beyond.
+const LONG_RECORDS: [usize; 7] = [248, 255, 256, 257, 495, 512, 1_000];
+
+/// Those that are longer than this.
+fn records_longer_than(most: usize) -> impl Iterator<Item = usize> {
+    LONG_RECORDS.into_iter().filter(move |&length| length > most)
+}
+
 /// The calls made so far.
 struct Script {
     random: Random,
@@ -54,7 +63,8 @@ fn end_calls() -> Vec<Call> {
     script.calls
 }
 
-/// All calls of the vectors; after those of the Inspect code come those with pages of 512 bytes.
+/// All calls of the vectors; after those of the Inspect code come those with pages of 512 bytes, at the end by the Inspect
+/// code and about lengths of two bytes.
 pub fn calls() -> Vec<Call> {
     let mut script = Script { random: Random::new(SEED), calls: Vec::new() };
     script.listed_words();
@@ -87,6 +97,7 @@ pub fn calls() -> Vec<Call> {
     script.calls.splice(before_the_files..before_the_files, end_calls());
     script.calls.extend(inspect::calls());
     script.calls.extend(large::calls());
+    script.calls.extend(large_inspect::calls());
     script.calls
 }
 
@@ -234,7 +245,7 @@ impl Script {
 
     /// Records far too long.
     fn far_records(&mut self) {
-        for length in FAR_RECORD_LENGTHS.into_iter().filter(|&length| length <= LENGTH_MOST) {
+        for length in records_longer_than(SMALL.second_bytes_most) {
             let filled = any_filled(&mut self.random, SMALL);
             self.page_with(Entry::WriteSecond, &filled, length);
         }
@@ -321,8 +332,9 @@ impl Script {
             for spare in [8 * length, (8 * length + found) / 2, found - 1] {
                 self.page_with(Entry::ReadSecond, &with_data_cell(second.clone(), spare), 126);
             }
-            self.page_with(Entry::ReadSecond, &with_byte(second.clone(), 1, (found / 8) as u8), 126);
-            self.page_with(Entry::ReadSecond, &with_byte(second, 1, 126.min(found / 8 + 1) as u8), 126);
+            for length in [found / 8, 126.min(found / 8 + 1)] {
+                self.page_with(Entry::ReadSecond, &with_length(second.clone(), length), 126);
+            }
         }
     }
 
@@ -376,7 +388,7 @@ impl Script {
 
     /// Wrong lengths of the page.
     fn page_lengths(&mut self) {
-        for length in wrong_page_lengths(Entry::WriteFirst) {
+        for length in NO_PAGE_LENGTHS {
             for entry in OF_FIRST_PAGES {
                 let first = any_first(&mut self.random, SMALL);
                 let page = resized(&mut self.random, first, length);
@@ -621,25 +633,25 @@ mod tests {
     #[test]
     fn size_and_variety() {
         let calls = calls();
-        assert_eq!(calls.len(), 2_368);
-        assert!(text_of(&calls).len() < 700_000);
-        assert!(input_of(&calls).len() < 1_000_000);
+        assert_eq!(calls.len(), 2_710);
+        assert!(text_of(&calls).len() < 850_000);
+        assert!(input_of(&calls).len() < 1_200_000);
         assert!(calls.iter().all(|call| call.page.len().max(call.other.len()) <= LENGTH_MOST));
         let of_pages = || calls.iter().filter(|call| call.entry.takes_page()).map(|call| &call.page);
         let different =
             |shape: Shape| of_pages().filter(|page| page.len() == shape.bytes).collect::<HashSet<_>>().len();
-        assert_eq!(Shape::BOTH.map(different), [921, 444]);
+        assert_eq!(Shape::BOTH.map(different), [957, 661]);
     }
 
     /// Before the calls of write file come those of all other entries but the Inspect code's; after them, those about that
     /// code, and at the end those with pages of 512 bytes.
     #[test]
     fn the_order_of_the_calls() {
-        let before_the_large = calls().len() - large::calls().len();
+        let before_the_large = calls().len() - large::calls().len() - large_inspect::calls().len();
         for (index, call) in calls().into_iter().enumerate() {
-            assert_eq!(call.entry == Entry::WriteFile, (1_194..1_220).contains(&index), "{index}");
-            assert!(index >= 1_220 || !Entry::OF_INSPECT.contains(&call.entry), "{index}");
-            let large = call.page.len() == LARGE.bytes && call.entry.takes(LARGE);
+            assert_eq!(call.entry == Entry::WriteFile, (1_196..1_222).contains(&index), "{index}");
+            assert!(index >= 1_222 || !Entry::OF_INSPECT.contains(&call.entry), "{index}");
+            let large = call.page.len() == LARGE.bytes && call.entry.takes_page();
             assert!(index >= before_the_large || !large, "{index}");
         }
     }

@@ -109,7 +109,7 @@ whole : (c : tie.After-record-length) → 256 ≤ length (c .before .before .bef
 whole c = omega (arith, headed (c .before) .0, shape-there (c .before))
 
 read-words-requires : tie.Need-read-words-requires
-read-words-requires c κs = (omega (arith, whole (c .before .before)), omega arith, zero-bits 256, omega arith, omega arith)
+read-words-requires c κs = (omega (arith, whole (c .before .before)), omega arith, zero-bits 252, omega (arith, length-small (c .before .before)), omega arith)
 
 cast-t21 : tie.Need-cast-t21
 cast-t21 c = omega (arith, c .before .if4 .taken)
@@ -180,7 +180,7 @@ read-words-requires-2 c κs =
       omega (arith, ap length (second-half P (omega (arith, whole told))), length-drop 253 P, headed head .0, words-inside (h .sound), h .least),
       omega (arith, h .sound .few),
       carried-clear _ h _ (a .out .now) (of-bytes head) (headed head) _ (told .record-length .ensures) _ _ _ (first-at four .read-words .ensures) (four .if4 .left),
-      omega arith,
+      omega (arith, length-small told),
       omega (arith, h .sound .few),
     )
 
@@ -191,7 +191,7 @@ rest-read : (c : tie.After-read-words2) →
     let shaped = told-at four .before .before .before .before .before .before .before .before in
     let n = first .result .bits in
     ReadFrom (drop 253 (shaped .before .before .before .args .page .now)) (n % 8) (8 * told-at four .record-length .result - n)
-    (shaped .shape-of .result .words - 44) (set (replicate 256 0) 0 (getD (first .last .1 .0) (n / 8) 0)) (c .read-words2 .result .words)
+    (shaped .shape-of .result .words - 44) (set (replicate 252 0) 0 (getD (first .last .1 .0) (n / 8) 0)) (c .read-words2 .result .words)
     (c .read-words2 .result .bits) (c .read-words2 .last .1 .0)
 rest-read c =
     let four = c .before .before .before in
@@ -202,7 +202,7 @@ rest-read c =
     subst
     (λ (D : List ℕ).
     ReadFrom D (n % 8) (8 * told .record-length .result - n) (shaped .shape-of .result .words - 44)
-    (set (replicate 256 0) 0 (getD (first .last .1 .0) (n / 8) 0)) (c .read-words2 .result .words) (c .read-words2 .result .bits) (c .read-words2 .last .1 .0))
+    (set (replicate 252 0) 0 (getD (first .last .1 .0) (n / 8) 0)) (c .read-words2 .result .words) (c .read-words2 .result .bits) (c .read-words2 .last .1 .0))
     (second-half (shaped .before .before .before .args .page .now) (omega (arith, whole told))) (c .read-words2 .ensures)
 
 add-t32 : tie.Need-add-t32

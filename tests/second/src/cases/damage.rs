@@ -2,29 +2,22 @@
 
 use super::files::{any_device, any_pages};
 use super::inspect::{self, bytes_taken, inspect_page, record_for, with_length_too_large, with_unsound_word};
-use super::lengths::{resized, wrong_data_length, wrong_page_length, wrong_pages_length};
+use super::lengths::{named_length_above, resized, wrong_data_length, wrong_page_length, wrong_pages_length};
 use super::pages::{
     any_first, any_record, blank, filled_page, filled_page_earlier, first_and_record, header_places, most_bytes,
-    with_data_cell, with_flaw, with_word, written_over, Filling,
+    with_data_cell, with_flaw, with_length, with_word, written_over, Filling,
 };
 use super::words::{any_argument, any_value, illegal, sum_too_large, with_hole, with_neighbours, Hole};
 use crate::call::{Call, Entry};
 use crate::file::file_bytes;
-use crate::inspect::INSPECT_BYTES_MOST;
-use crate::page::{data_cells_of, known_shape, longest_named, words_of, FILLED, FIRST_ROUND, INSPECTED};
+use crate::page::{
+    data_cells_of, known_shape, length_of, longest_named, put_length, words_of, FILLED, FIRST_ROUND, INSPECTED,
+};
 use crate::random::Random;
 use crate::shape::{Shape, SMALL};
 use crate::word::{cells_of, legal_word, number_of, CELLS};
 
-/// A shape of the pages that the entry takes. For an entry without a page of its own it tells nothing.
-pub fn any_shape(random: &mut Random, entry: Entry) -> Shape {
-    match entry.shapes() {
-        [] => SMALL,
-        shapes => random.pick(shapes),
-    }
-}
-
-/// A call that is accepted, with a page of this shape.
+/// A call that is accepted, with a page of this shape, which tells nothing for an entry without a page of its own.
 pub fn sound(random: &mut Random, entry: Entry, shape: Shape) -> Call {
     sound_by(random, entry, shape, filled_page)
 }
@@ -83,7 +76,7 @@ fn output_needed(call: &Call) -> usize {
     match call.entry {
         Entry::ReadFirst => known_shape(&call.page).first_bytes,
         Entry::WriteFile => file_bytes(call.page.len() / SMALL.bytes),
-        _ => usize::from(call.page[1]),
+        _ => length_of(&call.page),
     }
 }
 
@@ -107,12 +100,16 @@ fn set_state(random: &mut Random, call: &mut Call) {
     call.page[0] = if call.entry.states().contains(&state) { !state } else { state };
 }
 
-/// One of the bytes that 6 asks for out of its range.
+/// A length above the limit in bytes 1 and 2, or one of the bytes after the words not 0.
 fn set_header(random: &mut Random, call: &mut Call) {
     let shape = known_shape(&call.page);
     let place = random.pick(&header_places(shape));
-    let most = if place == 1 { longest_named(shape, call.page[0]) } else { 0 };
-    call.page[place] = random.byte_from(most as u8 + 1);
+    if shape.tail().contains(&place) {
+        call.page[place] = random.byte_from(1);
+    } else {
+        let most = longest_named(shape, call.page[0]);
+        put_length(&mut call.page, named_length_above(random, most));
+    }
 }
 
 /// A word that is not as the page's state asks for: not legal, not well formed, with a data cell set, or not legal with
@@ -133,15 +130,15 @@ fn lengthen_record(random: &mut Random, call: &mut Call) {
     let more = 1 + random.pick(&[0, 0, 1, 40, 256]);
     if call.entry == Entry::WriteInspect {
         // What fits by the Inspect code depends on the record.
-        call.other = inspect::any_record(random, INSPECT_BYTES_MOST + 257);
+        call.other = inspect::any_record(random, known_shape(&call.page).inspect_bytes_most + 257);
         call.other.truncate(bytes_taken(&call.page, &call.other) + more);
     } else {
         call.other = any_record(random, most_bytes(&call.page) + more);
     }
 }
 
-/// A byte 1 too large for the data cells, where the page has so few, or else a spare data cell set; on a page of the
-/// Inspect code, a byte 1 too large for the walks.
+/// A length too large for the data cells, where the page has so few, or else a spare data cell set; on a page of the
+/// Inspect code, a length too large for the walks.
 fn spoil_data_cells(random: &mut Random, call: &mut Call) {
     if call.entry == Entry::ReadInspect {
         call.page = with_length_too_large(random, std::mem::take(&mut call.page));
@@ -151,13 +148,13 @@ fn spoil_data_cells(random: &mut Random, call: &mut Call) {
     let found = data_cells_of(&words_of(&call.page)).len();
     let (fit, most) = (found / 8, shape.second_bytes_most);
     if fit < most && random.one_in(2) {
-        call.page[1] = random.between(fit + 1, most) as u8;
+        put_length(&mut call.page, random.between(fit + 1, most));
         return;
     }
     // One byte less than what fits every page leaves spare data cells on every page.
-    call.page[1] = call.page[1].min(shape.second_bytes_sure() as u8 - 1);
-    let page = std::mem::take(&mut call.page);
-    let (first, any) = (8 * usize::from(page[1]), random.below(found));
+    let length = length_of(&call.page).min(shape.second_bytes_sure() - 1);
+    let page = with_length(std::mem::take(&mut call.page), length);
+    let (first, any) = (8 * length, random.below(found));
     call.page = with_data_cell(page, random.pick(&[first, found - 1, any.max(first)]));
 }
 
@@ -165,7 +162,7 @@ fn spoil_data_cells(random: &mut Random, call: &mut Call) {
 fn damage(random: &mut Random, call: &mut Call, number: u8) {
     match number {
         1 => {
-            let length = wrong_page_length(random, call.entry);
+            let length = wrong_page_length(random);
             resize_page(random, call, length);
         }
         2 => {
@@ -225,7 +222,7 @@ pub fn any_combined(random: &mut Random, entry: Entry) -> Call {
     let any = random.below(choices(entry));
     let chosen = random.pick(&[0, one, one, any]);
     let fill = random.pick::<Filling>(&[filled_page, filled_page, filled_page_earlier]);
-    let shape = any_shape(random, entry);
+    let shape = random.pick(&Shape::BOTH);
     combined_by(random, entry, chosen, shape, fill)
 }
 
@@ -247,7 +244,7 @@ mod tests {
 
     /// Every entry with each shape that it takes, or with one where it takes none, and with each fill.
     fn every_making(entries: &[Entry]) -> Vec<(Entry, Shape, Filling)> {
-        let shapes = |entry: Entry| if entry.takes_page() { entry.shapes() } else { &[SMALL] };
+        let shapes = |entry: Entry| if entry.takes_page() { &Shape::BOTH[..] } else { &[SMALL] };
         let pairs = entries.iter().flat_map(|&entry| shapes(entry).iter().map(move |&shape| (entry, shape)));
         pairs.flat_map(|(entry, shape)| FILLINGS.map(|fill| (entry, shape, fill))).collect()
     }
@@ -280,31 +277,54 @@ mod tests {
         }
     }
 
-    /// Each of the bytes that 6 asks for is out of its range by itself; on 512 bytes, bytes 509 to 511 too.
+    /// Each of the bytes that 6 asks for is not 0 by itself, and bytes 1 and 2 together; on 512 bytes, bytes 509 to 511 too.
     #[test]
     fn every_header_byte_out_of_its_range() {
         let mut random = Random::new(4);
         for (shape, places) in [(SMALL, vec![1, 2]), (LARGE, vec![1, 2, 509, 510, 511])] {
+            let wanted = places.into_iter().map(|place| vec![place]).chain([vec![1, 2]]);
             let base = page_of(shape, 77);
             let mut differing = |_| {
                 let mut call = Call::of_page(Entry::FillPage, base.clone(), Vec::new());
                 set_header(&mut random, &mut call);
                 (0..shape.bytes).filter(|&place| call.page[place] != base[place]).collect::<Vec<_>>()
             };
-            let met: HashSet<Vec<usize>> = (0..200).map(&mut differing).collect();
-            assert_eq!(met, places.into_iter().map(|place| vec![place]).collect());
+            let met: HashSet<Vec<usize>> = (0..400).map(&mut differing).collect();
+            assert_eq!(met, wanted.collect());
         }
     }
 
-    /// Of random calls of an entry, about half have pages of each size that it takes.
+    /// A length above the limit of each code and size, by one and by more, whichever of its bytes tells so.
+    #[test]
+    fn every_length_out_of_its_range() {
+        let mut random = Random::new(4);
+        for (entry, shape, most) in [
+            (Entry::ReadSecond, SMALL, 126),
+            (Entry::ReadSecond, LARGE, 253),
+            (Entry::ReadInspect, SMALL, 247),
+            (Entry::ReadInspect, LARGE, 495),
+        ] {
+            let mut named = |_| {
+                let mut call = sound(&mut random, entry, shape);
+                put_length(&mut call.page, 0);
+                set_header(&mut random, &mut call);
+                length_of(&call.page)
+            };
+            let met: HashSet<usize> = (0..2_000).map(&mut named).filter(|length| *length > 0).collect();
+            assert_eq!(met.iter().min(), Some(&(most + 1)));
+            assert!(met.iter().any(|length| length % 256 <= most && length / 256 > 1), "{most}");
+        }
+    }
+
+    /// Of random calls of an entry, about half have pages of each size.
     #[test]
     fn both_sizes_have_their_share() {
         let mut random = Random::new(5);
         for entry in Entry::OF_PAGES {
             let calls: Vec<Call> = (0..1_000).map(|_| any_combined(&mut random, entry)).collect();
-            for &shape in entry.shapes() {
+            for shape in Shape::BOTH {
                 let count = calls.iter().filter(|call| call.page.len() == shape.bytes).count();
-                assert!(count * entry.shapes().len() > 600, "{} {} {count}", entry.name(), shape.bytes);
+                assert!(count > 300, "{} {} {count}", entry.name(), shape.bytes);
             }
         }
     }

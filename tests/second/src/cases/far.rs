@@ -9,11 +9,10 @@ use super::words::SPARSE_VALUE;
 use crate::answer::Answer;
 use crate::call::{Call, Entry};
 use crate::file::{file_bytes, FILE_PAGES_MOST};
-use crate::inspect::INSPECT_BYTES_MOST;
 use crate::memory::FAR_BYTES;
 use crate::page::known_shape;
 use crate::random::Random;
-use crate::shape::{Shape, SMALL};
+use crate::shape::{Shape, LARGE, SMALL};
 
 const SEED: u64 = 2_024;
 
@@ -27,7 +26,7 @@ const HIGH_PARTS: [usize; 6] = [1 << 8, 1 << 16, 1 << 31, 1 << 32, 1 << 40, 1 <<
 const OTHER_LENGTHS: [usize; 4] = [1 << 20, (1 << 32) - 1, 1 << 32, FAR_BYTES - 4_096];
 
 /// Record lengths of which 8 times, cut to 31, 32, 63 or 64 bits, fits a page, or is below 0.
-const WRAPPED_LENGTHS: [usize; 11] = [
+const WRAPPED_LENGTHS: [usize; 13] = [
     (1 << 28) + 20,
     (1 << 29) + 20,
     (1 << 60) + 20,
@@ -36,7 +35,9 @@ const WRAPPED_LENGTHS: [usize; 11] = [
     (1 << 61) + 82,
     (1 << 61) + 126,
     (1 << 61) + 165,
+    (1 << 61) + 247,
     (1 << 61) + 253,
+    (1 << 61) + 495,
     (1 << 62) + 20,
     isize::MAX as usize,
 ];
@@ -94,11 +95,10 @@ fn far_pages_lengths() -> Vec<usize> {
     parts.chain(OTHER_LENGTHS).chain(LONGEST).collect()
 }
 
-/// The far lengths of a page that the entry refuses; cut to fewer bits, they are the lengths of pages.
-fn far_page_lengths(entry: Entry) -> Vec<usize> {
+/// The far lengths of a page; cut to fewer bits, they are the lengths of pages. The least of them is one.
+fn far_page_lengths() -> Vec<usize> {
     let parts = HIGH_PARTS.into_iter().flat_map(|high| Shape::BOTH.map(|shape| high + shape.bytes));
-    let taken = |length: usize| entry.shapes().iter().any(|shape| shape.bytes == length);
-    parts.chain(OTHER_LENGTHS).filter(|&length| !taken(length)).collect()
+    parts.chain(OTHER_LENGTHS).filter(|&length| length != LARGE.bytes).collect()
 }
 
 /// The low part that would change the answer for the entry's other buffer.
@@ -115,8 +115,8 @@ fn near_length(entry: Entry, shape: Shape) -> usize {
     match entry {
         Entry::WriteFirst => shape.first_bytes + 1,
         Entry::WriteSecond => shape.second_bytes_most + 1,
-        Entry::WriteInspect => INSPECT_BYTES_MOST + MOVED_AT_ONCE,
-        Entry::ReadInspect => INSPECT_BYTES_MOST,
+        Entry::WriteInspect => shape.inspect_bytes_most + MOVED_AT_ONCE,
+        Entry::ReadInspect => shape.inspect_bytes_most,
         _ => shape.first_bytes,
     }
 }
@@ -146,7 +146,7 @@ pub fn calls() -> Vec<FarCall> {
     Entry::with_shapes(&Entry::WITH_OTHER).for_each(|(entry, shape)| walk.others(entry, shape));
     Entry::with_shapes(&Entry::WITH_OTHER).for_each(|(entry, shape)| walk.both(entry, shape));
     Shape::BOTH.into_iter().for_each(|shape| walk.second_outputs(shape));
-    walk.inspect_outputs();
+    Shape::BOTH.into_iter().for_each(|shape| walk.inspect_outputs(shape));
     Shape::BOTH.into_iter().for_each(|shape| walk.records(shape));
     walk.file_pages();
     [0, 1, FILE_PAGES_MOST].into_iter().for_each(|count| walk.file_outputs(count));
@@ -164,7 +164,7 @@ impl Walk {
 
     /// Pages of every far length.
     fn pages(&mut self, entry: Entry, shape: Shape) {
-        for length in far_page_lengths(entry) {
+        for length in far_page_lengths() {
             let near = self.long_page(entry, shape);
             self.calls.push(FarCall { near, page: Some(length), other: None });
         }
@@ -202,10 +202,10 @@ impl Walk {
     }
 
     /// The same for records by the Inspect code.
-    fn inspect_outputs(&mut self) {
-        for record in [0, 1, 126, INSPECT_BYTES_MOST] {
+    fn inspect_outputs(&mut self, shape: Shape) {
+        for record in [0, 1, shape.inspect_bytes_sure(), shape.inspect_bytes_most] {
             let zeros = vec![0; record];
-            self.outputs_of(Entry::ReadInspect, &inspect_page(&page_of(SMALL, 0), &zeros));
+            self.outputs_of(Entry::ReadInspect, &inspect_page(&page_of(shape, 0), &zeros));
         }
     }
 
@@ -228,14 +228,12 @@ impl Walk {
         }
     }
 
-    /// Such records over the least, the most and a middle capacity, by each code that the size has.
+    /// Such records over the least, the most and a middle capacity, by each code.
     fn records(&mut self, shape: Shape) {
         let any = any_first(&mut self.random, shape);
         for first in [page_of(shape, SPARSE_VALUE), page_of(shape, 0), any] {
             self.records_over(Entry::WriteSecond, &filled_page(&first));
-            if Entry::WriteInspect.takes(shape) {
-                self.records_over(Entry::WriteInspect, &first);
-            }
+            self.records_over(Entry::WriteInspect, &first);
         }
     }
 
@@ -303,7 +301,7 @@ mod tests {
 
     #[test]
     fn the_number_of_calls() {
-        assert_eq!(calls().len(), 1_097);
+        assert_eq!(calls().len(), 1_323);
     }
 
     #[test]
@@ -322,7 +320,7 @@ mod tests {
         }
     }
 
-    /// Each entry over pages of each size that it takes.
+    /// Each entry over pages of each size.
     #[test]
     fn both_sizes() {
         let calls = calls();
@@ -333,12 +331,12 @@ mod tests {
         }
     }
 
-    /// 512 is a far length for the entries of the Inspect code alone.
+    /// No far page has a length that a page has; 768, which is 512 in 8 bits more, is the least.
     #[test]
-    fn a_page_of_512_bytes_that_cannot_be_touched() {
+    fn no_far_page_is_a_page() {
         for entry in Entry::OF_PAGES {
-            let met = calls().iter().any(|far| far.near.entry == entry && far.page == Some(512));
-            assert_eq!(met, Entry::OF_INSPECT.contains(&entry), "{}", entry.name());
+            let of_entry = calls().into_iter().filter(|far| far.near.entry == entry);
+            assert_eq!(of_entry.filter_map(|far| far.page).min(), Some(768), "{}", entry.name());
         }
     }
 
@@ -373,7 +371,7 @@ mod tests {
         let records =
             answered().into_iter().filter(|(far, _)| far.near.entry == Entry::WriteInspect && far.page.is_none());
         for (far, answer) in records {
-            assert_eq!(far.touched(answer), 255);
+            assert!([247 + 8, 495 + 8].contains(&far.touched(answer)));
             let longer = Call { other: [&far.near.other[..], &[0xFF; 9]].concat(), ..far.near.clone() };
             assert_eq!(longer.clone().perform(), answer);
             assert!(far.other_length() > longer.other.len());
@@ -426,8 +424,9 @@ mod tests {
     #[test]
     fn lengths_of_which_8_times_is_cut() {
         let both = [(31, (1 << 28) + 20, 160), (32, (1 << 29) + 20, 160), (64, (1 << 61) + 82, 656)];
-        for (bits, wanted, left) in both.into_iter().chain([(64, (1 << 61) + 165, 1_320), (64, (1 << 61) + 253, 2_024)])
-        {
+        let more = [(165, 1_320), (247, 1_976), (253, 2_024), (495, 3_960)];
+        let more = more.map(|(low, left)| (64, (1 << 61) + low, left));
+        for (bits, wanted, left) in both.into_iter().chain(more) {
             assert!(WRAPPED_LENGTHS.contains(&wanted));
             assert_eq!(8 * (wanted as u128) % (1 << bits), left, "{bits} bits");
         }

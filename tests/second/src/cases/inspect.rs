@@ -1,16 +1,16 @@
-//! Records and pages of the Inspect code for the calls, valid and damaged.
+//! Records and pages of the Inspect code for the calls, of both sizes, valid and damaged.
 
 use super::files::{any_bytes, ones, zeros, Contents};
 use super::pages::{
-    any_filled, any_first, any_second, any_values, first_page, flipped, of_any_cells, with_byte, with_value, with_word,
-    Maker,
+    any_filled, any_first, any_second, any_values, first_page, flipped, of_any_cells, with_byte, with_header,
+    with_length, with_value, with_word, Maker,
 };
 use super::words::{illegal, sum_too_large, with_neighbours, ODD_VALUE};
 use crate::answer::Refusal;
-use crate::inspect::{put_bits, walks, write_inspect, INSPECT_BYTES_MOST};
-use crate::page::{bits_of, put_words, words_of, INSPECTED};
+use crate::inspect::{walks, walks_of, write_inspect};
+use crate::page::{known_shape, length_of, words_of, INSPECTED};
 use crate::random::Random;
-use crate::shape::{Shape, LARGE, SMALL};
+use crate::shape::Shape;
 use crate::word::{legal_word, CELLS};
 
 /// Makes records of this many bytes, from no ones to ones alone.
@@ -62,39 +62,29 @@ pub fn inspect_page(first: &[u8], record: &[u8]) -> Vec<u8> {
     page
 }
 
-/// A first-round page of which a zero record takes so many bits less, 0 to 44, than the 1,980 of the page of zeros: each
-/// word of value 3 takes one bit less than the 45 of one of value 0.
-pub fn first_taking_less(fewer: usize) -> Vec<u8> {
-    let value = |index: usize| if index * 5 % SMALL.words < fewer { 3 } else { 0 };
-    first_page(&(0..SMALL.words).map(value).collect::<Vec<u32>>())
+/// A first-round page of which a zero record takes so many bits less, 0 to the number of words, than the most of the page of
+/// zeros: each word of value 3 takes one bit less than the 45 of one of value 0.
+pub fn first_taking_less(shape: Shape, fewer: usize) -> Vec<u8> {
+    let value = |index: usize| if index * 5 % shape.words < fewer { 3 } else { 0 };
+    first_page(&(0..shape.words).map(value).collect::<Vec<u32>>())
 }
 
-/// A record of any kind and of at least `least` bytes, 0 to 126, that fits the first-round page.
+/// The first-round page with no record by the Inspect code but this length, which its walks may not reach.
+pub fn naming(first: &[u8], length: usize) -> Vec<u8> {
+    with_length(with_byte(first.to_vec(), 0, INSPECTED), length)
+}
+
+/// A record of any kind and of at least `least` bytes, which always go in, that fits the first-round page.
 pub fn record_for(random: &mut Random, first: &[u8], least: usize) -> Vec<u8> {
-    let longest = longest_of(first, any_record(random, INSPECT_BYTES_MOST + 1));
+    let longest = longest_of(first, any_record(random, known_shape(first).inspect_bytes_most + 1));
     let any = random.between(least, longest.len());
     let length = random.pick(&[least, longest.len(), any, any]);
     longest[..length].to_vec()
 }
 
-/// What the Inspect code would leave of a first-round page of 512 bytes, were it offered there.
-pub fn large_inspect(first: &[u8], record: &[u8]) -> Vec<u8> {
-    let (mut words, mut bits) = (words_of(first), bits_of(record));
-    for cells in &mut words {
-        put_bits(cells, &mut bits);
-    }
-    let mut page = with_byte(with_byte(first.to_vec(), 0, INSPECTED), 1, record.len() as u8);
-    put_words(&mut page, &words);
-    page
-}
-
-/// A page of the Inspect code; of 512 bytes, as that code would leave it.
+/// A page of the Inspect code.
 pub fn any_inspect(random: &mut Random, shape: Shape) -> Vec<u8> {
     let first = any_first(random, shape);
-    if shape == LARGE {
-        let length = random.between(0, INSPECT_BYTES_MOST);
-        return large_inspect(&first, &any_record(random, length));
-    }
     inspect_page(&first, &record_for(random, &first, 0))
 }
 
@@ -105,19 +95,19 @@ pub fn bits_in(page: &[u8]) -> usize {
 
 /// How many words of the page the record reaches.
 pub fn words_reached(page: &[u8]) -> usize {
-    walks(&words_of(page), 8 * usize::from(page[1])).iter().filter(|steps| !steps.is_empty()).count()
+    walks_of(page).iter().filter(|steps| !steps.is_empty()).count()
 }
 
 /// For each byte of the record of the page: the word of its last bit, and the cell after those that this bit takes.
 pub fn byte_ends(page: &[u8]) -> Vec<(usize, usize)> {
-    let walks = walks(&words_of(page), 8 * usize::from(page[1]));
+    let walks = walks_of(page);
     let steps = walks.iter().enumerate().flat_map(|(index, steps)| steps.iter().map(move |step| (index, step.next)));
     steps.skip(7).step_by(8).collect()
 }
 
 /// The longest start of any record over the first-round page whose last bit is in this word, before one of these cells.
 fn record_ending(random: &mut Random, first: &[u8], index: usize, cells: &[usize]) -> Option<Vec<u8>> {
-    let record = longest_of(first, any_record(random, INSPECT_BYTES_MOST));
+    let record = longest_of(first, any_record(random, known_shape(first).inspect_bytes_most));
     let ends = byte_ends(&inspect_page(first, &record));
     let place = ends.iter().rposition(|(of, cell)| *of == index && cells.contains(cell))?;
     Some(record[..=place].to_vec())
@@ -125,9 +115,15 @@ fn record_ending(random: &mut Random, first: &[u8], index: usize, cells: &[usize
 
 /// A first-round page with this value in this word, and a record over it whose last bit is in the word, before one of these
 /// cells.
-pub fn first_and_record_ending(random: &mut Random, index: usize, value: u32, cells: &[usize]) -> (Vec<u8>, Vec<u8>) {
+pub fn first_and_record_ending(
+    random: &mut Random,
+    shape: Shape,
+    index: usize,
+    value: u32,
+    cells: &[usize],
+) -> (Vec<u8>, Vec<u8>) {
     let found = (0..10_000).find_map(|_| {
-        let first = first_page(&with_value(any_values(random, SMALL), index, value));
+        let first = first_page(&with_value(any_values(random, shape), index, value));
         record_ending(random, &first, index, cells).map(|record| (first, record))
     });
     found.expect("some record ends there")
@@ -136,88 +132,103 @@ pub fn first_and_record_ending(random: &mut Random, index: usize, value: u32, ce
 /// The page with a word that is not legal with the read pairs put to 00: a sum too large in any word, or two neighbours in
 /// one that the record does not reach.
 pub fn with_unsound_word(random: &mut Random, page: Vec<u8>) -> Vec<u8> {
-    let index = random.below(SMALL.words);
+    let index = random.below(known_shape(&page).words);
     let cells = if index < words_reached(&page) { sum_too_large(random) } else { illegal(random) };
     with_word(page, index, cells)
 }
 
-/// The page with a byte 1 that names more than the walks take. Walks that take as much as byte 1 can name get a last word
-/// of fewer bits before it.
+/// The page with a length that is more than the walks take. Walks that take as much as a page may have get a last word of
+/// fewer bits before it.
 pub fn with_length_too_large(random: &mut Random, page: Vec<u8>) -> Vec<u8> {
-    let enough = bits_in(&page) >= 8 * INSPECT_BYTES_MOST;
-    let page = if enough { with_word(page, SMALL.words - 1, legal_word(ODD_VALUE)) } else { page };
+    let shape = known_shape(&page);
+    let enough = bits_in(&page) >= 8 * shape.inspect_bytes_most;
+    let page = if enough { with_word(page, shape.words - 1, legal_word(ODD_VALUE)) } else { page };
     let least = bits_in(&page) / 8 + 1;
-    let any = random.between(least, INSPECT_BYTES_MOST);
-    with_byte(page, 1, random.pick(&[least, least, any]) as u8)
+    let any = random.between(least, shape.inspect_bytes_most);
+    with_length(page, random.pick(&[least, least, any]))
 }
 
-fn inspect_with_unsound_word(random: &mut Random) -> Vec<u8> {
-    let page = any_inspect(random, SMALL);
+fn inspect_with_unsound_word(random: &mut Random, shape: Shape) -> Vec<u8> {
+    let page = any_inspect(random, shape);
     with_unsound_word(random, page)
 }
 
-fn inspect_with_length_too_large(random: &mut Random) -> Vec<u8> {
-    let page = any_inspect(random, SMALL);
+fn inspect_with_two_unsound_words(random: &mut Random, shape: Shape) -> Vec<u8> {
+    let page = inspect_with_unsound_word(random, shape);
+    with_unsound_word(random, page)
+}
+
+fn inspect_with_length_too_large(random: &mut Random, shape: Shape) -> Vec<u8> {
+    let page = any_inspect(random, shape);
     with_length_too_large(random, page)
 }
 
-fn inspect_with_header(random: &mut Random) -> Vec<u8> {
-    let place = random.between(1, 2);
-    with_byte(any_inspect(random, SMALL), place, random.byte())
+fn inspect_with_header(random: &mut Random, shape: Shape) -> Vec<u8> {
+    let page = any_inspect(random, shape);
+    with_header(random, page)
 }
 
-/// A page whose byte 1 names a length beside the record's.
-fn inspect_of_length_beside(random: &mut Random) -> Vec<u8> {
-    let page = any_inspect(random, SMALL);
-    let length = page[1];
-    with_byte(page, 1, random.pick(&[length.saturating_sub(1), length + 1]))
+/// A page of a length beside the record's.
+fn inspect_of_length_beside(random: &mut Random, shape: Shape) -> Vec<u8> {
+    let page = any_inspect(random, shape);
+    let length = length_of(&page);
+    with_length(page, random.pick(&[length.saturating_sub(1), length + 1]))
+}
+
+/// A page of another length than its record's.
+fn inspect_of_other_length(random: &mut Random, shape: Shape) -> Vec<u8> {
+    let length = any_length(random, shape);
+    with_length(any_inspect(random, shape), length)
 }
 
 /// A page with two neighbouring cells set, which the walk reads or not.
-fn inspect_with_neighbours(random: &mut Random) -> Vec<u8> {
-    let (page, index) = (any_inspect(random, SMALL), random.below(SMALL.words));
+fn inspect_with_neighbours(random: &mut Random, shape: Shape) -> Vec<u8> {
+    let (page, index) = (any_inspect(random, shape), random.below(shape.words));
     let cells = with_neighbours(words_of(&page)[index], random.below(CELLS - 1));
     with_word(page, index, cells)
 }
 
-fn inspect_flipped(random: &mut Random) -> Vec<u8> {
-    let page = any_inspect(random, SMALL);
+fn inspect_flipped(random: &mut Random, shape: Shape) -> Vec<u8> {
+    let page = any_inspect(random, shape);
     flipped(random, page)
 }
 
-fn any_length(random: &mut Random) -> u8 {
-    random.between(0, INSPECT_BYTES_MOST) as u8
+/// Any length that a page may have in state 09.
+fn any_length(random: &mut Random, shape: Shape) -> usize {
+    random.between(0, shape.inspect_bytes_most)
 }
 
-fn inspect_of_any_cells(random: &mut Random) -> Vec<u8> {
-    let length = any_length(random);
-    of_any_cells(random, SMALL, INSPECTED, length)
+fn inspect_of_any_cells(random: &mut Random, shape: Shape) -> Vec<u8> {
+    let length = any_length(random, shape);
+    of_any_cells(random, shape, INSPECTED, length)
 }
 
 /// The cells of a page of another state under the header of the Inspect code.
-fn inspect_of_another_round(random: &mut Random) -> Vec<u8> {
-    let page = random.pick::<Maker>(&[any_first, any_filled, any_second])(random, SMALL);
-    [&[INSPECTED, any_length(random), 0], &page[3..]].concat()
+fn inspect_of_another_round(random: &mut Random, shape: Shape) -> Vec<u8> {
+    let page = random.pick::<Maker>(&[any_first, any_filled, any_second])(random, shape);
+    naming(&page, any_length(random, shape))
 }
 
-/// Damaged pages of 256 bytes in state 09.
-const DAMAGED_KINDS: [fn(&mut Random) -> Vec<u8>; 8] = [
+/// Damaged pages in state 09.
+const DAMAGED_KINDS: [Maker; 10] = [
     inspect_with_unsound_word,
+    inspect_with_two_unsound_words,
     inspect_with_length_too_large,
     inspect_with_header,
     inspect_of_length_beside,
+    inspect_of_other_length,
     inspect_with_neighbours,
     inspect_flipped,
     inspect_of_any_cells,
     inspect_of_another_round,
 ];
 
-/// A page of state 09, valid or damaged. On 512 bytes no entry looks further than at the length or the state.
+/// A page of state 09, valid or damaged.
 pub fn any_inspect_kind(random: &mut Random, shape: Shape) -> Vec<u8> {
-    if shape == LARGE || random.one_in(3) {
+    if random.one_in(3) {
         any_inspect(random, shape)
     } else {
-        random.pick(&DAMAGED_KINDS)(random)
+        random.pick(&DAMAGED_KINDS)(random, shape)
     }
 }
 
@@ -227,11 +238,11 @@ mod tests {
     use crate::answer::number;
     use crate::cases::pages::any_page;
     use crate::inspect::read_inspect;
-    use crate::page::page_capacity;
+    use crate::shape::{LARGE, SMALL};
     use std::collections::HashSet;
 
     fn read(page: &[u8]) -> u8 {
-        number(read_inspect(page, &mut [0; INSPECT_BYTES_MOST]))
+        number(read_inspect(page, &mut [0; LARGE.inspect_bytes_most]))
     }
 
     /// How many bits of the record are ones.
@@ -242,7 +253,7 @@ mod tests {
     #[test]
     fn records_of_each_kind() {
         let mut random = Random::new(1);
-        for length in [0, 1, 126, 248] {
+        for length in [0, 1, 126, 248, 496] {
             let records = RECORDS.map(|record| record(&mut random, length));
             assert!(records.iter().all(|record| record.len() == length));
             let bits = 8 * length as u32;
@@ -254,49 +265,66 @@ mod tests {
     #[test]
     fn pages_of_each_kind() {
         let mut random = Random::new(2);
-        for _ in 0..200 {
-            assert_eq!(read(&any_inspect(&mut random, SMALL)), 0);
-            assert_eq!(read(&inspect_with_unsound_word(&mut random)), 7);
-            assert_eq!(read(&inspect_with_length_too_large(&mut random)), 9);
+        for shape in Shape::BOTH.repeat(200) {
+            assert_eq!(read(&any_inspect(&mut random, shape)), 0);
+            assert_eq!(read(&inspect_with_unsound_word(&mut random, shape)), 7);
+            assert_eq!(read(&inspect_with_two_unsound_words(&mut random, shape)), 7);
+            assert_eq!(read(&inspect_with_length_too_large(&mut random, shape)), 9);
         }
+    }
+
+    /// Valid pages of records that are longer than one byte names, and of shorter ones.
+    #[test]
+    fn lengths_of_one_byte_and_of_two() {
+        let mut random = Random::new(2);
+        let lengths: Vec<usize> = (0..500).map(|_| length_of(&any_inspect(&mut random, LARGE))).collect();
+        let long = lengths.iter().filter(|&&length| length > 255).count();
+        assert!((100..400).contains(&long), "{long}");
     }
 
     #[test]
     fn every_answer_is_met() {
         let mut random = Random::new(3);
-        let met: HashSet<u8> = (0..500).map(|_| read(&any_inspect_kind(&mut random, SMALL))).collect();
-        assert!(met.is_superset(&HashSet::from([0, 6, 7, 9])), "{met:?}");
+        for shape in Shape::BOTH {
+            let met: HashSet<u8> = (0..500).map(|_| read(&any_inspect_kind(&mut random, shape))).collect();
+            assert!(met.is_superset(&HashSet::from([0, 6, 7, 9])), "{met:?}");
+        }
     }
 
     /// Among pages of any kind there are pages of state 09 that reading accepts, and refuses by 6, by 7 and by 9.
     #[test]
     fn any_page_may_be_of_the_inspect_code() {
         let mut random = Random::new(5);
-        let pages = (0..1_000).map(|_| any_page(&mut random, SMALL)).filter(|page| page[0] == INSPECTED);
-        let met: HashSet<u8> = pages.map(|page| read(&page)).collect();
-        assert_eq!(met, HashSet::from([0, 6, 7, 9]));
-    }
-
-    /// Of 512 bytes there are pages of state 09 too, which the reader refuses by 1.
-    #[test]
-    fn pages_of_512_bytes_in_state_09() {
-        let mut random = Random::new(6);
-        for page in [(); 50].map(|()| any_inspect_kind(&mut random, LARGE)) {
-            assert_eq!((page[0], read(&page), page_capacity(&page)), (INSPECTED, 1, Err(Refusal::STATE)));
+        for shape in Shape::BOTH {
+            let pages = (0..1_000).map(|_| any_page(&mut random, shape)).filter(|page| page[0] == INSPECTED);
+            let met: HashSet<u8> = pages.map(|page| read(&page)).collect();
+            assert_eq!(met, HashSet::from([0, 6, 7, 9]));
         }
-        let pages: Vec<_> = (0..500).map(|_| any_page(&mut random, LARGE)).collect();
-        assert!(pages.iter().filter(|page| page[0] == INSPECTED).count() > 50);
     }
 
     #[test]
     fn records_that_end_as_asked_for() {
         let mut random = Random::new(4);
-        for (index, cell) in [0, 1, 43].into_iter().flat_map(|index| [44, 45, 46].map(|cell| (index, cell))) {
-            let (first, record) = first_and_record_ending(&mut random, index, 1, &[cell]);
+        let small = [0, 1, 43].map(|index| (SMALL, index));
+        let large = [0, 43, 44, 45, 87].map(|index| (LARGE, index));
+        let places = small.into_iter().chain(large).flat_map(|place| [44, 45, 46].map(|cell| (place, cell)));
+        for ((shape, index), cell) in places {
+            let (first, record) = first_and_record_ending(&mut random, shape, index, 1, &[cell]);
             let page = inspect_page(&first, &record);
             assert_eq!(byte_ends(&page).last(), Some(&(index, cell)));
             assert_eq!(words_reached(&page), index + 1);
             assert_eq!(read(&page), 0);
+        }
+    }
+
+    #[test]
+    fn pages_that_take_less() {
+        for (shape, fewer) in
+            Shape::BOTH.into_iter().flat_map(|shape| (0..=shape.words).map(move |fewer| (shape, fewer)))
+        {
+            let first = first_taking_less(shape, fewer);
+            assert_eq!(bits_in(&first), shape.walk_ends()[1] - fewer);
+            assert_eq!(read(&naming(&first, bits_in(&first) / 8)), 0);
         }
     }
 }

@@ -3,13 +3,21 @@
 use super::files::{any_bytes, ones, zeros, Contents};
 use crate::call::Entry;
 use crate::file::file_bytes;
+use crate::page::length_of;
 use crate::random::Random;
 use crate::shape::{Shape, LARGE, SMALL};
 
 /// Lengths that no page has.
-const NO_PAGE_LENGTHS: [usize; 14] = [0, 1, 2, 3, 255, 257, 300, 384, 508, 509, 511, 513, 768, 1_024];
-/// Lengths that fit no page of 256 bytes, and from 255 on none of 512; 8 times 8,192 is 65,536.
-pub const FAR_RECORD_LENGTHS: [usize; 9] = [200, 255, 256, 257, 1_000, 8_192, 8_200, 65_536, 65_700];
+pub const NO_PAGE_LENGTHS: [usize; 14] = [0, 1, 2, 3, 255, 257, 300, 384, 508, 509, 511, 513, 768, 1_024];
+/// Record lengths at the ends: about the limit of each code and size, about the most that one byte names, and about twice
+/// of it.
+pub const END_LENGTHS: [usize; 21] =
+    [0, 1, 125, 126, 127, 246, 247, 248, 252, 253, 254, 255, 256, 257, 494, 495, 496, 497, 511, 512, 513];
+/// Record lengths that fit no page; 8 times 8,192 is 65,536.
+pub const FAR_RECORD_LENGTHS: [usize; 7] = [600, 1_000, 8_192, 8_200, 65_535, 65_536, 65_700];
+/// Lengths of two bytes that no page has: of each, byte 1 alone or byte 2 alone is a length that a page has; 8 times 8,192
+/// and the one after it are, cut to 16 bits, those of 0 and of 126 bytes.
+pub const FAR_NAMED_LENGTHS: [usize; 10] = [582, 638, 759, 765, 8_192, 8_318, 0x7FFF, 0xFF00, 0xFF00 + 126, 0xFFFF];
 /// Lengths that are no multiple of 256.
 const CUT_PAGES_LENGTHS: [usize; 7] = [1, 255, 257, 511, 513, 16_383, 16_385];
 /// Lengths of more than 64 pages, of which 65,536 and those after it are, cut to 16 bits, those of 0, 1 and 64 pages.
@@ -41,20 +49,8 @@ fn wrong_length(random: &mut Random, exact: &[usize], classes: &[usize]) -> usiz
     }
 }
 
-/// The lengths of the pages that the entry takes.
-fn page_lengths(entry: Entry) -> Vec<usize> {
-    entry.shapes().iter().map(|shape| shape.bytes).collect()
-}
-
-/// Lengths of a page that the entry refuses: those that no page has, and that of a size which the entry does not take.
-pub fn wrong_page_lengths(entry: Entry) -> Vec<usize> {
-    let taken = page_lengths(entry);
-    let sizes = Shape::BOTH.map(|shape| shape.bytes);
-    NO_PAGE_LENGTHS.into_iter().chain(sizes).filter(|length| !taken.contains(length)).collect()
-}
-
-pub fn wrong_page_length(random: &mut Random, entry: Entry) -> usize {
-    wrong_length(random, &page_lengths(entry), &wrong_page_lengths(entry))
+pub fn wrong_page_length(random: &mut Random) -> usize {
+    wrong_length(random, &Shape::BOTH.map(|shape| shape.bytes), &NO_PAGE_LENGTHS)
 }
 
 /// Lengths that are not the first record's: none, one byte less and more, and the other size's.
@@ -84,25 +80,37 @@ fn data_length(random: &mut Random, shape: Shape) -> usize {
     }
 }
 
-/// The length of a record of the fill code: about what fits every page, about the most that fits some page, or any.
-fn record_length(random: &mut Random, shape: Shape) -> usize {
-    let (sure, most) = (shape.second_bytes_sure(), shape.second_bytes_most);
+/// The length of a record by a code of which `sure` bytes always go in and `most` at most: about these, at another end, far
+/// beyond, or any.
+fn record_length(random: &mut Random, sure: usize, most: usize) -> usize {
     match random.below(16) {
         0 => random.pick(&FAR_RECORD_LENGTHS),
         1 => random.between(sure - 5, sure + 4),
         2 => random.between(most - 6, most + 4),
+        3 => random.pick(&END_LENGTHS),
         _ => random.between(0, most + 4),
     }
 }
 
-/// The length of a record of the Inspect code, of which 126 bytes always go in and 247 at most.
-fn inspect_length(random: &mut Random) -> usize {
-    match random.below(16) {
-        0 => random.pick(&FAR_RECORD_LENGTHS),
-        1 => random.between(124, 128),
-        2 => random.between(245, 250),
-        _ => random.between(0, 256),
+/// A length for bytes 1 and 2: at an end, far beyond, of no more than a large page's bytes, or any.
+pub fn any_named_length(random: &mut Random) -> usize {
+    match random.below(8) {
+        0 => random.pick(&FAR_NAMED_LENGTHS),
+        1 => random.below(1 << 16),
+        2 => random.below(LARGE.bytes),
+        _ => random.pick(&END_LENGTHS),
     }
+}
+
+/// A length for bytes 1 and 2 that is larger than this one: by one, or of those before.
+pub fn named_length_above(random: &mut Random, most: usize) -> usize {
+    any_named_length(random).max(most + 1)
+}
+
+/// The length in bytes 1 and 2, as far as a record may have it.
+fn record_named(page: &[u8]) -> usize {
+    let named = if page.len() < 3 { 0 } else { length_of(page) };
+    named.min(LARGE.inspect_bytes_most)
 }
 
 /// One short, exact, longer, 0, or any.
@@ -118,11 +126,9 @@ pub fn other_length(random: &mut Random, entry: Entry, page: &[u8]) -> usize {
     match entry {
         Entry::WriteFirst => data_length(random, shape),
         Entry::ReadFirst => output_length(random, shape.first_bytes),
-        Entry::WriteSecond => record_length(random, shape),
-        Entry::WriteInspect => inspect_length(random),
-        Entry::ReadSecond | Entry::ReadInspect => {
-            output_length(random, page.get(1).map_or(0, |&length| usize::from(length)))
-        }
+        Entry::WriteSecond => record_length(random, shape.second_bytes_sure(), shape.second_bytes_most),
+        Entry::WriteInspect => record_length(random, shape.inspect_bytes_sure(), shape.inspect_bytes_most),
+        Entry::ReadSecond | Entry::ReadInspect => output_length(random, record_named(page)),
         Entry::WriteFile => output_length(random, file_bytes(page.len() / SMALL.bytes)),
         _ => 0,
     }
@@ -133,20 +139,15 @@ mod tests {
     use super::*;
     use std::collections::HashSet;
 
-    /// Neither 256 nor 512 for the entries that take both, and not 256 for those of the Inspect code; between the two sizes
-    /// there are many.
+    /// Neither 256 nor 512; between the two sizes there are many.
     #[test]
     fn lengths_that_are_wrong_for_a_page() {
         let mut random = Random::new(1);
-        for entry in Entry::OF_PAGES {
-            let met: HashSet<usize> = (0..5_000).map(|_| wrong_page_length(&mut random, entry)).collect();
-            assert!(!met.contains(&256));
-            assert_eq!(met.contains(&512), Entry::OF_INSPECT.contains(&entry), "{}", entry.name());
-            assert!([0, 1, 255, 257, 300, 384, 508, 509, 511, 513, 768, 1_024]
-                .iter()
-                .all(|length| met.contains(length)));
-            assert!(met.iter().filter(|length| (257..512).contains(*length)).count() > 200);
-        }
+        let met: HashSet<usize> = (0..5_000).map(|_| wrong_page_length(&mut random)).collect();
+        assert!(!met.contains(&256) && !met.contains(&512));
+        let wanted = [0, 1, 255, 257, 300, 384, 508, 509, 511, 513, 768, 1_024];
+        assert!(wanted.iter().all(|length| met.contains(length)));
+        assert!(met.iter().filter(|length| (257..512).contains(*length)).count() > 200);
     }
 
     #[test]
@@ -158,13 +159,44 @@ mod tests {
         }
     }
 
-    /// Records about 82 and 126 bytes on 256 bytes, and about 165 and 253 on 512.
+    /// Records about 82 and 126 bytes by the fill code on 256 bytes, about 165 and 253 on 512; by the Inspect code about 126
+    /// and 247, and about 253 and 495; by each about 255 and 256.
     #[test]
     fn lengths_of_records() {
         let mut random = Random::new(3);
-        for (shape, lengths) in [(SMALL, [0, 82, 83, 126, 127]), (LARGE, [0, 165, 166, 253, 254])] {
-            let met: HashSet<usize> = (0..5_000).map(|_| record_length(&mut random, shape)).collect();
-            assert!(lengths.iter().all(|length| met.contains(length)), "{}", shape.bytes);
+        for (entry, shape, lengths) in [
+            (Entry::WriteSecond, SMALL, [82, 83, 126, 127]),
+            (Entry::WriteSecond, LARGE, [165, 166, 253, 254]),
+            (Entry::WriteInspect, SMALL, [126, 127, 247, 248]),
+            (Entry::WriteInspect, LARGE, [253, 254, 495, 496]),
+        ] {
+            let page = vec![0; shape.bytes];
+            let met: HashSet<usize> = (0..5_000).map(|_| other_length(&mut random, entry, &page)).collect();
+            assert!(lengths.iter().chain(&[0, 255, 256, 257]).all(|length| met.contains(length)), "{}", shape.bytes);
         }
+    }
+
+    /// Lengths at the ends, of which byte 2 is 0, 1 and 2; and those above a limit.
+    #[test]
+    fn lengths_of_two_bytes() {
+        let mut random = Random::new(4);
+        let met: HashSet<usize> = (0..5_000).map(|_| any_named_length(&mut random)).collect();
+        assert!(END_LENGTHS.iter().chain(&FAR_NAMED_LENGTHS).all(|length| met.contains(length)));
+        assert!(met.iter().all(|&length| length < 1 << 16));
+        for most in [0, 126, 247, 253, 495] {
+            let met: HashSet<usize> = (0..2_000).map(|_| named_length_above(&mut random, most)).collect();
+            assert!(met.iter().all(|&length| length > most) && met.contains(&(most + 1)));
+            assert!(met.iter().any(|length| length % 256 == 0) && met.iter().any(|length| length / 256 > 1));
+        }
+    }
+
+    /// The bytes of the far ones: one of the two alone is a length, and 8 times it in 16 bits.
+    #[test]
+    fn the_far_lengths_of_two_bytes() {
+        let bytes = |length: usize| (length % 256, length / 256);
+        assert_eq!(FAR_NAMED_LENGTHS.map(bytes)[..4], [(70, 2), (126, 2), (247, 2), (253, 2)]);
+        assert_eq!([8_192, 8_318].map(|length: usize| 8 * length % 65_536 / 8), [0, 126]);
+        assert!(FAR_NAMED_LENGTHS.iter().all(|&length| length > LARGE.inspect_bytes_most));
+        assert!(FAR_RECORD_LENGTHS.iter().all(|&length| length > LARGE.inspect_bytes_most));
     }
 }

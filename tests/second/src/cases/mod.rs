@@ -27,21 +27,12 @@ pub fn any_call(random: &mut Random) -> Call {
     }
 }
 
-/// A shape for a page of the entry, seldom one that it does not take.
-fn any_page_shape(random: &mut Random, entry: Entry) -> Shape {
-    if random.one_in(8) {
-        random.pick(&Shape::BOTH)
-    } else {
-        damage::any_shape(random, entry)
-    }
-}
-
 /// A call over a page of any kind, with any length classes.
 fn any_page_call(random: &mut Random, entry: Entry) -> Call {
-    let shape = any_page_shape(random, entry);
+    let shape = random.pick(&Shape::BOTH);
     let mut page = pages::page_for(random, entry, shape);
     if random.one_in(16) {
-        let length = lengths::wrong_page_length(random, entry);
+        let length = lengths::wrong_page_length(random);
         page = lengths::resized(random, page, length);
     }
     let length = lengths::other_length(random, entry, &page);
@@ -53,11 +44,9 @@ fn any_page_call(random: &mut Random, entry: Entry) -> Call {
 mod tests {
     use super::*;
     use crate::answer::number;
-    use crate::shape::LARGE;
     use std::collections::HashSet;
 
-    /// The random calls of a run: each entry meets each of its answers on each size that it takes, and those of the Inspect
-    /// code refuse every page of 512 bytes by 1.
+    /// The random calls of a run: each entry meets each of its answers on each size, and 1 on neither.
     #[test]
     fn every_answer_on_both_sizes() {
         let with_answer = |call: Call| (call.entry, Shape::of(&call.page), number(call.clone().perform()));
@@ -66,13 +55,12 @@ mod tests {
         for entry in Entry::OF_PAGES {
             let of_entry = of_pages.iter().filter(|(of, ..)| *of == entry);
             let met: HashSet<_> = of_entry.map(|(_, shape, answer)| (*shape, *answer)).collect();
-            for &shape in entry.shapes() {
+            for shape in Shape::BOTH {
                 let answers = [0].iter().chain(entry.refusals()).filter(|&&answer| answer != 1);
                 assert!(answers.into_iter().all(|&answer| met.contains(&(Some(shape), answer))), "{met:?}");
             }
             let refused: Vec<_> = met.iter().filter(|(_, answer)| *answer == 1).map(|(shape, _)| *shape).collect();
-            assert!(refused.contains(&None), "{}", entry.name());
-            assert_eq!(refused.contains(&Some(LARGE)), Entry::OF_INSPECT.contains(&entry), "{}", entry.name());
+            assert_eq!(refused, [None], "{}", entry.name());
         }
     }
 }

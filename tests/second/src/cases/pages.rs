@@ -1,10 +1,10 @@
 //! Pages of both sizes for the calls: of every state, valid and damaged, and as versions before Change 6 left them.
 
 use super::inspect::{any_inspect, any_inspect_kind};
-use super::lengths::{resized_with, AFTER_A_PAGE};
+use super::lengths::{any_named_length, resized_with, AFTER_A_PAGE};
 use super::words::{self, any_value, value_with_pulses, Hole, SPARSE_VALUE};
 use crate::call::Entry;
-use crate::page::{self, known_shape, Words, FILLED, FIRST_ROUND, INSPECTED, SECOND_ROUND};
+use crate::page::{self, known_shape, length_of, Words, FILLED, FIRST_ROUND, INSPECTED, SECOND_ROUND};
 use crate::random::Random;
 use crate::shape::Shape;
 use crate::word::{self, Cells, CELLS, LAST_CELL};
@@ -88,6 +88,12 @@ pub fn with_word(mut page: Vec<u8>, index: usize, cells: Cells) -> Vec<u8> {
 /// The page with another byte in this place.
 pub fn with_byte(mut page: Vec<u8>, place: usize, byte: u8) -> Vec<u8> {
     page[place] = byte;
+    page
+}
+
+/// The page with another length in bytes 1 and 2.
+pub fn with_length(mut page: Vec<u8>, length: usize) -> Vec<u8> {
+    page::put_length(&mut page, length);
     page
 }
 
@@ -225,8 +231,11 @@ fn blank_with_byte(random: &mut Random, shape: Shape) -> Vec<u8> {
     with_byte(blank(random, shape), place, random.byte_from(1))
 }
 
-/// The page with any byte in place of one that 6 asks for.
-fn with_header(random: &mut Random, page: Vec<u8>) -> Vec<u8> {
+/// The page with any byte in place of one that 6 asks for, or with any length.
+pub fn with_header(random: &mut Random, page: Vec<u8>) -> Vec<u8> {
+    if random.one_in(3) {
+        return with_length(page, any_named_length(random));
+    }
     let place = random.pick(&header_places(known_shape(&page)));
     with_byte(page, place, random.byte())
 }
@@ -257,9 +266,9 @@ fn first_flipped(random: &mut Random, shape: Shape) -> Vec<u8> {
     flipped(random, page)
 }
 
-/// Any cells under a sound header of this state and this byte 1.
-pub fn of_any_cells(random: &mut Random, shape: Shape, state: u8, length: u8) -> Vec<u8> {
-    let mut page = with_byte(with_byte(vec![0; shape.bytes], 0, state), 1, length);
+/// Any cells under a sound header of this state and this length.
+pub fn of_any_cells(random: &mut Random, shape: Shape, state: u8, length: usize) -> Vec<u8> {
+    let mut page = with_length(with_byte(vec![0; shape.bytes], 0, state), length);
     page[shape.cells()].fill_with(|| random.byte());
     page
 }
@@ -362,7 +371,7 @@ fn filled_of_any_cells(random: &mut Random, shape: Shape) -> Vec<u8> {
 /// The cells of a first-round or second-round page under the header of a filled one.
 fn filled_of_another_round(random: &mut Random, shape: Shape) -> Vec<u8> {
     let page = random.pick::<Maker>(&[any_first, any_second])(random, shape);
-    with_byte(with_byte(page, 0, FILLED), 1, 0)
+    with_length(with_byte(page, 0, FILLED), 0)
 }
 
 fn second_with_header(random: &mut Random, shape: Shape) -> Vec<u8> {
@@ -382,22 +391,22 @@ fn second_with_both(random: &mut Random, shape: Shape) -> Vec<u8> {
     with_header(random, page)
 }
 
-/// Any length that byte 1 may name in state 07.
-fn any_length(random: &mut Random, shape: Shape) -> u8 {
-    random.between(0, shape.second_bytes_most) as u8
+/// Any length that a page may have in state 07.
+fn any_length(random: &mut Random, shape: Shape) -> usize {
+    random.between(0, shape.second_bytes_most)
 }
 
-/// A second-round page whose byte 1 names another length.
+/// A second-round page of another length than its record's.
 fn second_of_other_length(random: &mut Random, shape: Shape) -> Vec<u8> {
     let length = any_length(random, shape);
-    with_byte(any_second(random, shape), 1, length)
+    with_length(any_second(random, shape), length)
 }
 
 /// A second-round page with a data cell set, in the record or spare.
 fn second_with_data_cell(random: &mut Random, shape: Shape) -> Vec<u8> {
     let page = any_second(random, shape);
     let most = page::data_cells_of(&page::words_of(&page)).len();
-    let spare = (8 * usize::from(page[1])).min(most - 1);
+    let spare = (8 * length_of(&page)).min(most - 1);
     let any = random.below(most);
     with_data_cell(page, random.pick(&[spare, most - 1, any]))
 }
@@ -406,7 +415,7 @@ fn second_with_data_cell(random: &mut Random, shape: Shape) -> Vec<u8> {
 fn second_of_any_words(random: &mut Random, shape: Shape) -> Vec<u8> {
     let length = any_length(random, shape);
     let words: Words = (0..shape.words).map(|_| words::well_formed(random)).collect();
-    with_byte(page_of_words(SECOND_ROUND, &words), 1, length)
+    with_length(page_of_words(SECOND_ROUND, &words), length)
 }
 
 fn second_flipped(random: &mut Random, shape: Shape) -> Vec<u8> {
@@ -432,7 +441,7 @@ fn of_any_bytes(random: &mut Random, shape: Shape) -> Vec<u8> {
 
 /// The bytes of a valid page of the other size at this one's length: cut, or followed by zeros, by ones or by any bytes.
 fn of_the_other_size(random: &mut Random, shape: Shape) -> Vec<u8> {
-    let page = random.pick::<Maker>(&[blank, any_first, any_filled, any_second])(random, shape.other());
+    let page = random.pick::<Maker>(&[blank, any_first, any_filled, any_second, any_inspect])(random, shape.other());
     let after = random.pick(&AFTER_A_PAGE);
     resized_with(random, page, shape.bytes, after)
 }
@@ -526,7 +535,9 @@ mod tests {
     use super::*;
     use crate::answer::number;
     use crate::call::Call;
+    use crate::inspect::read_inspect;
     use crate::page::{page_capacity, read_first, read_second, write_first, write_second};
+    use crate::shape::LARGE;
     use std::collections::HashSet;
 
     /// The number of read second's answer, with an output that is long enough.
@@ -614,15 +625,17 @@ mod tests {
         let answers = |page: &[u8]| {
             let first = number(read_first(page, &mut [0; 352]));
             let written = number(write_first(&mut page.to_vec(), &vec![0; known_shape(page).first_bytes]));
-            [(0x00, written), (0x01, first), (0x03, number(page_capacity(page))), (0x07, read(page))]
+            let inspect = number(read_inspect(page, &mut [0; LARGE.inspect_bytes_most]));
+            [(0x00, written), (0x01, first), (0x03, number(page_capacity(page))), (0x07, read(page)), (0x09, inspect)]
         };
+        let before_others = [(0x00, 4), (0x01, 6), (0x03, 6), (0x03, 7), (0x07, 6), (0x07, 7), (0x09, 6)];
         for (shape, wanted) in Shape::BOTH.into_iter().zip([
             // Cut: first-round and filled pages, but not every second-round page, are pages.
-            vec![(0x00, 0), (0x01, 0), (0x03, 0), (0x07, 0), (0x07, 6), (0x07, 9)],
-            // Before other bytes: with zeros, a blank page and a first-round page are pages.
-            vec![(0x00, 0), (0x00, 4), (0x01, 0), (0x01, 6), (0x03, 6), (0x03, 7), (0x07, 6), (0x07, 7)],
+            vec![(0x00, 0), (0x01, 0), (0x03, 0), (0x07, 0), (0x07, 6), (0x07, 9), (0x09, 0), (0x09, 6), (0x09, 9)],
+            // Before other bytes: with zeros, a blank page, a first-round page and one of the Inspect code are pages.
+            [0x00, 0x01, 0x09].map(|state| (state, 0)).into_iter().chain(before_others).collect(),
         ]) {
-            let pages = (0..1_000).map(|_| of_the_other_size(&mut random, shape));
+            let pages = (0..2_000).map(|_| of_the_other_size(&mut random, shape));
             let own = |page: Vec<u8>| answers(&page).into_iter().find(|(state, _)| *state == page[0]);
             let met: HashSet<(u8, u8)> = pages.filter_map(own).collect();
             assert_eq!(met, HashSet::from_iter(wanted), "{}", shape.bytes);

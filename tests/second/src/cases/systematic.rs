@@ -1,5 +1,5 @@
 //! The fixed part of the differential run: it walks states, header bytes, words, the ends of words, lengths and refusals of
-//! pages of both sizes one by one, pages as versions before Change 6 left them, files, and records by the Inspect code.
+//! pages of both sizes one by one, pages as versions before Change 6 left them, records by the Inspect code, and files.
 
 mod earlier;
 mod files;
@@ -9,14 +9,13 @@ mod lengths;
 mod tests;
 
 use super::damage::{choices, combined};
-use super::inspect::{inspect_page, large_inspect};
+use super::inspect::{inspect_page, sparse};
 use super::pages::*;
 use super::words::{
     any_value, never_sound, sum_too_large, unwritten, with_bare_hole, with_hole, with_neighbours, with_one_data_cell,
     Hole, LISTED_VALUES, ODD_VALUE, OPEN_ODD_VALUE, OPEN_SPARSE_VALUE, SPARSE_VALUE,
 };
 use crate::call::{Call, Entry};
-use crate::inspect::INSPECT_BYTES_MOST;
 use crate::page::{data_cells_of, words_of, FIRST_ROUND};
 use crate::random::Random;
 use crate::shape::{Shape, LARGE, SMALL};
@@ -34,7 +33,7 @@ struct Walk {
     random: Random,
     calls: Vec<Call>,
     shape: Shape,
-    /// A valid page of each state; of 512 bytes, the last is as the Inspect code would leave it.
+    /// A valid page of each state; on 512 bytes, the last has a record that is longer than one byte names.
     blank: Vec<u8>,
     first: Vec<u8>,
     filled: Vec<u8>,
@@ -51,10 +50,10 @@ pub fn calls() -> Vec<Call> {
         walk.pages_of_every_kind();
         walk.pages_of_every_length();
         walk.pages_of_the_earlier_fill();
+        walk.records_by_inspect();
         walk.refusals();
     }
     small.files_of_every_kind();
-    small.records_by_inspect();
     Entry::ALL.into_iter().filter(|entry| !entry.takes_page()).for_each(|entry| small.refusals_of(entry));
     small.calls.extend(large.calls);
     small.calls
@@ -62,11 +61,11 @@ pub fn calls() -> Vec<Call> {
 
 /// A length of the entry's other buffer that is not refused with this page.
 fn sound_length(entry: Entry, page: &[u8]) -> usize {
+    let shape = if page.len() <= SMALL.bytes { SMALL } else { LARGE };
     match entry {
         Entry::WriteSecond | Entry::WriteInspect => 40,
-        Entry::ReadInspect => INSPECT_BYTES_MOST,
-        _ if page.len() <= SMALL.bytes => SMALL.first_bytes,
-        _ => LARGE.first_bytes,
+        Entry::ReadInspect => shape.inspect_bytes_most,
+        _ => shape.first_bytes,
     }
 }
 
@@ -82,8 +81,8 @@ impl Walk {
         let first = first_page(&drawn_values(&mut random, shape, any_bits));
         let filled = filled_page(&first);
         let second = second_page(&first, &random.bytes(60));
-        let record = random.bytes(60);
-        let inspect = if shape == SMALL { inspect_page(&first, &record) } else { large_inspect(&first, &record) };
+        let record = sparse(&mut random, shape.inspect_bytes_most * 5 / 8);
+        let inspect = inspect_page(&first, &record);
         Walk { random, calls: Vec::new(), shape, blank, first, filled, second, inspect }
     }
 
@@ -182,7 +181,7 @@ impl Walk {
             let three = [[1, 2, 3], [1, 1, 254]].map(|bytes| tail.clone().zip(bytes));
             let three = three.map(|bytes| bytes.fold(base.clone(), |page, (place, byte)| with_byte(page, place, byte)));
             for page in words.chain(others).chain(three) {
-                self.pages(&Entry::taking(base[0], self.shape), &page);
+                self.pages(&Entry::taking(base[0]), &page);
             }
         }
     }
@@ -196,7 +195,7 @@ impl Walk {
 
     /// Every pair of neighbours in every word, and a sum too large in every word.
     fn illegal_words(&mut self) {
-        let entries = Entry::taking(FIRST_ROUND, self.shape);
+        let entries = Entry::taking(FIRST_ROUND);
         for (index, &cells) in words_of(&self.first).iter().enumerate() {
             let pairs = (0..CELLS - 1).map(|cell| with_neighbours(cells, cell));
             let sums = [cells_with_sum(LARGEST_VALUE + 1), sum_too_large(&mut self.random)];
@@ -255,7 +254,7 @@ impl Walk {
     /// Every single bit flipped of a valid page of each state, for the entries that take it.
     fn flips(&mut self) {
         for base in self.bases() {
-            self.flips_of(&base, &Entry::taking(base[0], self.shape));
+            self.flips_of(&base, &Entry::taking(base[0]));
         }
         self.flips_of(&self.filled.clone(), &[Entry::FillPage, Entry::ReadSecond]);
     }
@@ -305,10 +304,9 @@ impl Walk {
         }
     }
 
-    /// Every choice of refusals of the entries that take a page of this size.
+    /// Every choice of refusals of the entries that take a page.
     fn refusals(&mut self) {
-        let entries = Entry::OF_PAGES.into_iter().filter(|entry| entry.takes(self.shape));
-        entries.collect::<Vec<_>>().into_iter().for_each(|entry| self.refusals_of(entry));
+        Entry::OF_PAGES.into_iter().for_each(|entry| self.refusals_of(entry));
     }
 
     /// Every choice of the entry's refusals, several times.

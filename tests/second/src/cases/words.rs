@@ -71,9 +71,10 @@ pub fn illegal(random: &mut Random) -> Cells {
     with_neighbours(cells, random.below(CELLS - 1))
 }
 
-/// A word that is sound in no state: two neighbours are set, a data cell is set, and from cell 4 on there is a hole.
+/// A word that is sound in no state: two neighbours are set, a data cell is set, from cell 9 on there is a hole, and the sum
+/// is too large, with the neighbours put to 00 as well.
 pub fn never_sound() -> Cells {
-    std::array::from_fn(|cell| cell < 3)
+    std::array::from_fn(|cell| [0, 2, 4, 6, 7].contains(&cell))
 }
 
 /// Where the fill could still set a cell.
@@ -213,6 +214,7 @@ pub fn any_argument(random: &mut Random) -> u64 {
 #[cfg(test)]
 mod tests {
     use super::*;
+    use crate::inspect::{clear_pairs, steps};
     use crate::word::{self, filled, filled_earlier, open, separators_from};
     use std::collections::HashSet;
 
@@ -242,7 +244,12 @@ mod tests {
     fn a_word_that_is_sound_in_no_state() {
         let cells = never_sound();
         assert_eq!((word::legal(&cells), word::well_formed(&cells), word::unwritten(&cells)), (false, false, false));
-        assert_eq!((word::read_back(&cells), cells[1]), (vec![1, 3], true));
+        assert_eq!((word::read_back(&cells), cells[7]), (vec![1, 3, 5, 7], true));
+        for count in 0..=CELLS {
+            let mut read = cells;
+            clear_pairs(&mut read, &steps(&cells, count));
+            assert!(!word::legal(&read), "{count}");
+        }
     }
 
     /// A well-formed word ends in one separator or two from cell 43 on; with a hole at the end, in none.

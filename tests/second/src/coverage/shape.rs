@@ -1,13 +1,15 @@
 //! Counters of what calls with pages of one size lead to: the words that 7 names, the bits that 8 names, the pulses of
-//! fills, the ends of words, what the Inspect code takes, and the bytes after the words.
+//! fills, the ends of words, what the Inspect code takes, lengths, and the bytes after the words.
 
+use super::inspect::Inspects;
+use super::length::Lengths;
 use super::tail::Tails;
 use crate::answer::{number, value, Answer};
 use crate::call::{Call, Entry};
-use crate::inspect::{walks, without_pairs, Step, WALK_ENDS};
+use crate::inspect::{walks_of, without_pairs};
 use crate::page::{words_of, Words, FILLED, FIRST_ROUND, INSPECTED};
 use crate::shape::{Shape, LARGE, SMALL};
-use crate::word::{self, Cells, LAST_CELL};
+use crate::word::{self, Cells};
 use std::ops::RangeInclusive;
 
 /// A counter and its name.
@@ -15,13 +17,15 @@ pub type Named = (String, u64);
 
 /// The bits that refusal 8 of each entry must have named: the least and the most capacity of a page, and the least and the
 /// most that the walks of the Inspect code take.
-const ENDS: [(Entry, Shape, u64); 6] = [
+const ENDS: [(Entry, Shape, u64); 8] = [
     (Entry::WriteSecond, SMALL, 660),
     (Entry::WriteSecond, SMALL, 1_012),
     (Entry::WriteSecond, LARGE, 1_320),
     (Entry::WriteSecond, LARGE, 2_024),
     (Entry::WriteInspect, SMALL, 1_012),
     (Entry::WriteInspect, SMALL, 1_980),
+    (Entry::WriteInspect, LARGE, 2_024),
+    (Entry::WriteInspect, LARGE, 3_960),
 ];
 
 /// The pulses of a page of which fill page must have answered some: the least, the most, and between them each stretch
@@ -69,9 +73,8 @@ impl Flaw {
 }
 
 /// The words of a page of the Inspect code with the read pairs put to 00.
-fn words_read(page: &[u8]) -> Words {
-    let words = words_of(page);
-    without_pairs(&words, &walks(&words, 8 * usize::from(page[1])))
+pub fn words_read(page: &[u8]) -> Words {
+    without_pairs(&words_of(page), &walks_of(page))
 }
 
 /// Each entry that gives 7, with each flaw that it gives it for.
@@ -128,7 +131,7 @@ fn earlier(cells: &Cells, legal: &Cells) -> bool {
 }
 
 /// The page of an accepted call, as it is after it.
-fn page_after(call: &Call) -> Vec<u8> {
+pub fn page_after(call: &Call) -> Vec<u8> {
     let mut after = call.clone();
     if call.entry.writes_page() {
         after.perform().expect("it is accepted");
@@ -143,13 +146,12 @@ pub struct OfShape {
     words: Vec<Vec<u64>>,
     /// For each of `ENDS`: how often 8 named it.
     ends: [u64; ENDS.len()],
-    /// For each of `Entry::OF_INSPECT` and each of `WALK_ENDS`: how often a page with a word that takes so many bits was
-    /// accepted.
-    walks: [[u64; 2]; 2],
     /// For each of `Entry::AFTER_THE_FILL` and each of `WordEnd::ALL`: how often a page that has it was accepted.
     word_ends: [[u64; 2]; 3],
     /// For each of the shape's `page_pulses`: how often fill page answered one of them.
     pulses: Vec<u64>,
+    inspects: Inspects,
+    lengths: Lengths,
     tails: Tails,
 }
 
@@ -159,9 +161,10 @@ impl OfShape {
             shape,
             words: vec![vec![0; shape.words]; FLAWS.len()],
             ends: [0; ENDS.len()],
-            walks: [[0; 2]; 2],
             word_ends: [[0; 2]; 3],
             pulses: vec![0; page_pulses(shape).len()],
+            inspects: Inspects::new(shape),
+            lengths: Lengths::new(shape),
             tails: Tails::new(shape),
         }
     }
@@ -172,12 +175,13 @@ impl OfShape {
             0 => {
                 self.count_pulses(call.entry, value(answer));
                 self.count_word_ends(call);
-                self.count_walks(call);
             }
             7 => self.count_word(call, value(answer) as usize),
             8 => self.count_bits(call.entry, value(answer)),
             _ => self.tails.count(call, answer),
         }
+        self.inspects.count(call, answer);
+        self.lengths.count(call, answer);
     }
 
     fn count_word(&mut self, call: &Call, index: usize) {
@@ -203,17 +207,6 @@ impl OfShape {
         }
     }
 
-    /// Counts what the words of the accepted page of the Inspect code take, as it is after the call.
-    fn count_walks(&mut self, call: &Call) {
-        let Some(entry) = Entry::OF_INSPECT.iter().position(|&entry| entry == call.entry) else { return };
-        let page = page_after(call);
-        let walks = walks(&words_of(&page), 8 * usize::from(page[1]));
-        for (bits, met) in WALK_ENDS.into_iter().zip(&mut self.walks[entry]) {
-            let ended = |steps: &Vec<Step>| steps.last().is_some_and(|step| step.next >= LAST_CELL);
-            *met += u64::from(walks.iter().any(|steps| steps.len() == bits && ended(steps)));
-        }
-    }
-
     fn count_pulses(&mut self, entry: Entry, pulses: u64) {
         if entry == Entry::FillPage {
             let place = page_pulses(self.shape).iter().position(|stretch| stretch.contains(&pulses));
@@ -225,7 +218,7 @@ impl OfShape {
     pub fn wanted(&self) -> Vec<Named> {
         let words = (0..FLAWS.len()).flat_map(|place| self.wanted_words(place));
         let wanted = words.chain(self.wanted_ends()).chain(self.wanted_pulses()).chain(self.wanted_word_ends());
-        let wanted = wanted.chain(self.wanted_walks()).chain(self.tails.wanted());
+        let wanted = wanted.chain(self.inspects.wanted()).chain(self.lengths.wanted()).chain(self.tails.wanted());
         wanted.map(|(name, met)| (format!("{name}, on {} bytes", self.shape.bytes), met)).collect()
     }
 
@@ -233,7 +226,7 @@ impl OfShape {
     fn wanted_words(&self, place: usize) -> Vec<Named> {
         let (entry, flaw) = FLAWS[place];
         let name = |index: usize| format!("{} 7 at word {index}, {}", entry.name(), flaw.name());
-        let words = self.words[place].iter().enumerate().filter(|_| entry.takes(self.shape));
+        let words = self.words[place].iter().enumerate();
         words.map(|(index, &met)| (name(index), met)).collect()
     }
 
@@ -264,17 +257,6 @@ impl OfShape {
         self.of_word_ends().map(|(entry, end, met)| (name(entry, end), met)).collect()
     }
 
-    /// Each entry of the Inspect code that takes the shape, with each of `WALK_ENDS` and its counter.
-    fn of_walks(&self) -> impl Iterator<Item = (Entry, usize, u64)> + '_ {
-        let entries = Entry::OF_INSPECT.into_iter().zip(self.walks).filter(|(entry, _)| entry.takes(self.shape));
-        entries.flat_map(|(entry, met)| WALK_ENDS.into_iter().zip(met).map(move |(bits, met)| (entry, bits, met)))
-    }
-
-    fn wanted_walks(&self) -> Vec<Named> {
-        let name = |entry: Entry, bits: usize| format!("{} accepted, a word of {bits} bits", entry.name());
-        self.of_walks().map(|(entry, bits, met)| (name(entry, bits), met)).collect()
-    }
-
     /// What is told of the entry beside its answers.
     pub fn told_of(&self, entry: Entry) -> String {
         let named = entry.refusals().contains(&7).then(|| format!("  7 at {} words", self.words_named(entry)));
@@ -282,10 +264,9 @@ impl OfShape {
         let ends = ends.map(|(_, bits, met)| format!("  8 with {bits}: {met}"));
         let word_ends = self.of_word_ends().filter(|(of, ..)| *of == entry);
         let word_ends = word_ends.map(|(_, end, met)| format!("  {}: {met}", end.name()));
-        let walks = self.of_walks().filter(|(of, ..)| *of == entry);
-        let walks = walks.map(|(_, bits, met)| format!("  a word of {bits} bits: {met}"));
-        let told = named.into_iter().chain(self.told_of_pulses(entry)).chain(ends).chain(word_ends).chain(walks);
-        told.chain([self.tails.told_of(entry)]).collect()
+        let told = named.into_iter().chain(self.told_of_pulses(entry)).chain(ends).chain(word_ends);
+        let parts = [self.inspects.told_of(entry), self.lengths.told_of(entry), self.tails.told_of(entry)];
+        told.chain(parts).collect()
     }
 
     fn told_of_pulses(&self, entry: Entry) -> Option<String> {
@@ -304,12 +285,13 @@ impl OfShape {
 #[cfg(test)]
 mod tests {
     use super::*;
-    use crate::cases::inspect::{inspect_page, large_inspect};
+    use crate::cases::inspect::inspect_page;
     use crate::cases::pages::{
         filled_page, filled_page_earlier, first_page, page_of, second_page, second_page_earlier, values_with_pulses,
         with_byte, with_data_cell, with_value, with_word,
     };
     use crate::cases::words::{never_sound, END_VALUES, ODD_VALUE, OPEN_VALUES, SPARSE_VALUE};
+    use crate::coverage::length::is_of_lengths;
     use crate::word::{cells_with_sum, LARGEST_SUM};
     use std::collections::HashSet;
 
@@ -318,12 +300,12 @@ mod tests {
         met_by_call(&Call::of_page(entry, page, vec![0; 127]))
     }
 
-    /// The counters that a call turns from 0, by name without the size at the end.
+    /// The counters that a call turns from 0, by name without the size at the end, but for those of lengths.
     fn met_by_call(call: &Call) -> Vec<String> {
         let mut counters = OfShape::new(Shape::of(&call.page).expect("a page"));
         counters.count(call, call.clone().perform());
         let end = format!(", on {} bytes", call.page.len());
-        let met = counters.wanted().into_iter().filter(|(_, met)| *met > 0);
+        let met = counters.wanted().into_iter().filter(|(name, met)| *met > 0 && !is_of_lengths(name));
         met.map(|(name, _)| name.strip_suffix(&end).expect("the size").to_string()).collect()
     }
 
@@ -422,10 +404,10 @@ mod tests {
         }
     }
 
-    /// Every word of each size is wanted for each flaw; of 512 bytes, not those of the Inspect code.
+    /// Every word of each size is wanted for each flaw.
     #[test]
     fn every_word_is_wanted() {
-        for (shape, wanted) in [(SMALL, 11 * 44), (LARGE, 8 * 88)] {
+        for (shape, wanted) in [(SMALL, 11 * 44), (LARGE, 11 * 88)] {
             let names = OfShape::new(shape).wanted().into_iter().filter(|(name, _)| name.contains(" 7 at word "));
             assert_eq!(names.map(|(name, _)| name).collect::<HashSet<_>>().len(), wanted);
         }
@@ -464,54 +446,46 @@ mod tests {
     /// The bits that 8 of write inspect names: zeros over the odd cells, and over no cell.
     #[test]
     fn the_bits_that_8_of_write_inspect_names_count() {
-        for (value, length, bits) in [(ODD_VALUE, 127, 1_012), (0, 248, 1_980)] {
-            let call = Call::of_page(Entry::WriteInspect, page_of(SMALL, value), vec![0; length]);
+        for (shape, value, length, bits) in [
+            (SMALL, ODD_VALUE, 127, 1_012),
+            (SMALL, 0, 248, 1_980),
+            (LARGE, ODD_VALUE, 254, 2_024),
+            (LARGE, 0, 496, 3_960),
+        ] {
+            let call = Call::of_page(Entry::WriteInspect, page_of(shape, value), vec![0; length]);
             assert_eq!(met_by_call(&call), [format!("write inspect 8 with {bits}")]);
         }
     }
 
-    /// An accepted page counts for the bits that its words take, once it is written or before it is read. A word in which
-    /// the record ends counts for nothing.
+    /// What is counted apart of the Inspect code and of lengths is wanted here, and told.
     #[test]
-    fn the_bits_of_words_count() {
-        for (byte, length, bits) in [(0x00, 6, Some(45)), (0xFF, 3, Some(23)), (0x00, 5, None), (0xFF, 2, None)] {
-            let (first, record) = (page_of(SMALL, 0), vec![byte; length]);
-            let page = inspect_page(&first, &record);
-            let calls = [(Entry::WriteInspect, first), (Entry::ReadInspect, page)];
-            for call in calls.map(|(entry, page)| Call::of_page(entry, page, record.clone())) {
-                let ends = bits.map(|bits| format!("{} accepted, a word of {bits} bits", call.entry.name()));
-                assert_eq!(met_by_call(&call), ends.into_iter().collect::<Vec<_>>());
-            }
-        }
-    }
-
-    /// Two ends for each of both entries on 256 bytes, and it is told how often each was met.
-    #[test]
-    fn both_ends_of_the_bits_of_a_word_are_wanted() {
-        for (shape, entries) in [(SMALL, 2), (LARGE, 0)] {
+    fn the_inspect_code_and_lengths_are_wanted() {
+        for shape in Shape::BOTH {
             let counters = OfShape::new(shape);
-            let wanted = counters.wanted().into_iter().filter(|(name, _)| name.contains("a word of "));
-            assert_eq!(wanted.count(), 2 * entries);
-            for text in ["  a word of 23 bits: 0", "  a word of 45 bits: 0"] {
-                let told = |entry: &Entry| counters.told_of(*entry).contains(text);
-                assert_eq!(Entry::ALL.into_iter().filter(told).count(), entries);
-            }
+            let names: HashSet<String> = counters.wanted().into_iter().map(|(name, _)| name).collect();
+            let apart = Inspects::new(shape).wanted().into_iter().chain(Lengths::new(shape).wanted());
+            assert!(apart
+                .map(|(name, _)| format!("{name}, on {} bytes", shape.bytes))
+                .all(|name| names.contains(&name)));
+            let told = counters.told_of(Entry::ReadInspect);
+            assert!(told.contains("  records end in 0 words  lengths: 0"), "{told}");
         }
     }
 
     #[test]
     fn the_flaw_of_a_word_of_the_inspect_code_counts() {
-        let page = inspect_page(&page_of(SMALL, 0), &[0; 20]);
-        for (index, cells, flaw) in [
-            (0, cells_with_sum(LARGEST_SUM), "with a sum too large"),
-            (7, cells_with_sum(LARGEST_SUM), "with a sum too large"),
-            (7, [true; 46], "with neighbours that are not read"),
+        for (shape, index, cells, flaw) in [
+            (SMALL, 0, cells_with_sum(LARGEST_SUM), "with a sum too large"),
+            (SMALL, 7, cells_with_sum(LARGEST_SUM), "with a sum too large"),
+            (SMALL, 7, [true; 46], "with neighbours that are not read"),
+            (LARGE, 0, cells_with_sum(LARGEST_SUM), "with a sum too large"),
+            (LARGE, 44, [true; 46], "with neighbours that are not read"),
+            (LARGE, 87, [true; 46], "with neighbours that are not read"),
         ] {
+            let page = inspect_page(&page_of(shape, 0), &[0; 20]);
             let name = format!("read inspect 7 at word {index}, {flaw}");
-            assert_eq!(met_by(Entry::ReadInspect, with_word(page.clone(), index, cells)), [name]);
+            assert_eq!(met_by(Entry::ReadInspect, with_word(page, index, cells)), [name]);
         }
-        let large = large_inspect(&page_of(LARGE, 0), &[0; 20]);
-        assert_eq!(met_by(Entry::ReadInspect, with_word(large, 7, [true; 46])), [""; 0]);
     }
 
     /// One of bytes 509 to 511 counts where nothing else is refused by the same number: over a page that is sound without
@@ -526,6 +500,9 @@ mod tests {
             (Entry::PageCapacity, filled_page(&first)),
             (Entry::WriteSecond, filled_page(&first)),
             (Entry::ReadSecond, second_page(&first, &[0x96; 20])),
+            (Entry::WriteInspect, first.clone()),
+            (Entry::ReadInspect, inspect_page(&first, &[0x96; 20])),
+            (Entry::ReadInspect, inspect_page(&first, &[0; 300])),
         ];
         for (place, (entry, page)) in (509..512).flat_map(|place| pages.clone().map(|pair| (place, pair))) {
             let name = |without: &str| format!("{} 6 by byte {place} {without} in state 0{}", entry.name(), page[0]);
@@ -533,7 +510,7 @@ mod tests {
             assert_eq!(met_by(entry, damaged.clone()), [name("alone")]);
             let bad_word = with_word(damaged.clone(), 87, never_sound());
             assert_eq!(met_by(entry, bad_word), [name("before 7")]);
-            for other in [1, 2, 509, 510, 511].into_iter().filter(|&other| other != place) {
+            for other in [2, 509, 510, 511].into_iter().filter(|&other| other != place) {
                 assert_eq!(met_by(entry, with_byte(damaged.clone(), other, 254)), [""; 0]);
             }
         }
@@ -542,14 +519,14 @@ mod tests {
         assert_eq!(met_by_call(&call), ["write first 4 by byte 511 alone in state 00"]);
     }
 
-    /// Seven pairs of an entry and a state, three bytes each: alone, and but for write first before 7.
+    /// Nine pairs of an entry and a state, three bytes each: alone, and but for write first before 7.
     #[test]
     fn every_byte_after_the_words_is_wanted() {
-        for (shape, wanted) in [(SMALL, 0), (LARGE, 3 + 6 * 6)] {
+        for (shape, wanted) in [(SMALL, 0), (LARGE, 3 + 8 * 6)] {
             let counters = OfShape::new(shape);
             assert_eq!(counters.wanted().iter().filter(|(name, _)| name.contains(" by byte ")).count(), wanted);
             let told = |entry: &Entry| counters.told_of(*entry).contains("  by one of bytes 509 to 511: 0");
-            assert_eq!(Entry::ALL.into_iter().filter(told).count(), if shape == LARGE { 6 } else { 0 });
+            assert_eq!(Entry::ALL.into_iter().filter(told).count(), if shape == LARGE { 8 } else { 0 });
         }
     }
 }

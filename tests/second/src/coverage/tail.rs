@@ -61,9 +61,8 @@ impl Tails {
 
     /// Every counter that must not be 0, with its name. Write first does not look at words.
     pub fn wanted(&self) -> Vec<(String, u64)> {
-        let entries = Entry::OF_PAGES.into_iter().filter(|entry| entry.takes(self.shape));
-        let pairs = entries.flat_map(|entry| entry.states().iter().map(move |&state| (entry, state)));
-        let places = pairs.flat_map(|(entry, state)| self.shape.tail().map(move |place| (entry, state, place)));
+        let places =
+            Entry::with_states().flat_map(|(entry, state)| self.shape.tail().map(move |place| (entry, state, place)));
         let kinds = [Without::Sound, Without::BadWord];
         let keys = places.flat_map(|(entry, state, place)| kinds.map(|without| (entry, state, place, without)));
         let keys = keys.filter(|(entry, .., without)| *without == Without::Sound || entry.refusals().contains(&7));
@@ -72,7 +71,7 @@ impl Tails {
 
     /// How often the entry has refused such a page, if there can be one.
     pub fn told_of(&self, entry: Entry) -> String {
-        if self.shape.tail().is_empty() || !entry.takes(self.shape) {
+        if self.shape.tail().is_empty() || !entry.takes_page() {
             return String::new();
         }
         let met: u64 = self.met.iter().filter(|((of, ..), _)| *of == entry).map(|(_, met)| met).sum();

@@ -1,21 +1,22 @@
-//! The fixed calls of the Inspect code.
+//! The fixed calls of the Inspect code with pages of 256 bytes.
 
-use super::{Script, INDICES, LENGTH_MOST};
+use super::{records_longer_than, Script, INDICES};
 use crate::call::{Call, Entry};
 use crate::cases::files::{any_bytes, zeros, Contents};
 use crate::cases::inspect::{
-    any_inspect, bits_in, byte_ends, bytes_taken, first_and_record_ending, first_taking_less, inspect_page, record_for,
-    RECORDS,
+    any_inspect, bits_in, byte_ends, bytes_taken, first_and_record_ending, first_taking_less, inspect_page, naming,
+    record_for, RECORDS,
 };
-use crate::cases::lengths::{resized, wrong_page_lengths, FAR_RECORD_LENGTHS};
+use crate::cases::lengths::{resized, NO_PAGE_LENGTHS};
 use crate::cases::pages::{
-    any_filled, any_first, any_second, blank, by_turns, first_page, page_of, with_byte, with_flip, with_word,
+    any_filled, any_first, any_second, blank, by_turns, first_page, page_of, with_byte, with_flip, with_length,
+    with_word,
 };
 use crate::cases::words::{sum_too_large, with_neighbours, EDGE_VALUE, ODD_VALUE, SPARSE_VALUE};
-use crate::inspect::{put_bits, INSPECT_BYTES_MOST};
+use crate::inspect::put_bits;
 use crate::page::{words_of, INSPECTED};
 use crate::random::Random;
-use crate::shape::SMALL;
+use crate::shape::{Shape, SMALL};
 use crate::word::{cells_with_sum, weight, Cells, CELLS, LARGEST_VALUE};
 
 const SEED: u64 = 247;
@@ -48,7 +49,7 @@ pub fn calls() -> Vec<Call> {
 
 /// A word whose sum is too large with its read pairs put to 00: cells 0 to 20 are by turns 1 and 0; there are the pairs of
 /// a 1 among the zeros after them, and of one over the last two cells.
-fn large_sum_with_pairs() -> Cells {
+pub fn large_sum_with_pairs() -> Cells {
     let mut cells = std::array::from_fn(|cell| cell % 2 == 0 && cell <= 20);
     // 11 bits for the pairs 10, one for each of 8 cells 0 and of the 12 after the first pair 11.
     let bits = (0..).map(|bit| bit == 19 || bit == 32);
@@ -58,7 +59,7 @@ fn large_sum_with_pairs() -> Cells {
 
 impl Script {
     /// Writes the record over the first-round page; what is accepted is read back into an output of just its length.
-    fn inspecting(&mut self, first: &[u8], record: Vec<u8>) {
+    pub fn inspecting(&mut self, first: &[u8], record: Vec<u8>) {
         let length = record.len();
         let page = self.page(Entry::WriteInspect, first, record);
         if page[0] == INSPECTED {
@@ -93,7 +94,7 @@ impl Script {
     fn each_kind(&mut self) {
         for kind in RECORDS {
             let first = any_first(&mut self.random, SMALL);
-            let record = kind(&mut self.random, INSPECT_BYTES_MOST + 1);
+            let record = kind(&mut self.random, SMALL.inspect_bytes_most + 1);
             let most = bytes_taken(&first, &record);
             let any = self.random.between(0, most);
             [most, most + 1, any].into_iter().for_each(|length| self.inspecting(&first, record[..length].to_vec()));
@@ -101,8 +102,8 @@ impl Script {
     }
 
     /// A record that ends in this word before one of these cells, over any page with this value in the word.
-    fn ending(&mut self, index: usize, value: u32, cells: &[usize]) {
-        let (first, record) = first_and_record_ending(&mut self.random, index, value, cells);
+    pub fn ending(&mut self, shape: Shape, index: usize, value: u32, cells: &[usize]) {
+        let (first, record) = first_and_record_ending(&mut self.random, shape, index, value, cells);
         self.inspecting(&first, record);
     }
 
@@ -111,7 +112,7 @@ impl Script {
     fn last_cells(&mut self) {
         let ends = [(44, [0, 1]), (45, [3, SPARSE_VALUE]), (46, [2, EDGE_VALUE])];
         for (index, (cell, values)) in END_INDICES.into_iter().flat_map(|index| ends.map(|end| (index, end))) {
-            values.into_iter().for_each(|value| self.ending(index, value, &[cell]));
+            values.into_iter().for_each(|value| self.ending(SMALL, index, value, &[cell]));
         }
     }
 
@@ -119,15 +120,14 @@ impl Script {
     fn word_ends(&mut self) {
         for (index, next, cell) in [(0, 0, 1), (20, EDGE_VALUE, 2), (42, 0, 1)] {
             let value = self.random.draw() as u32;
-            self.ending(index, value, &[45, 46]);
-            self.ending(index + 1, next, &[cell]);
+            self.ending(SMALL, index, value, &[45, 46]);
+            self.ending(SMALL, index + 1, next, &[cell]);
         }
     }
 
     /// Records far too long.
     fn far_inspects(&mut self) {
-        let lengths = FAR_RECORD_LENGTHS.into_iter().filter(|&length| length <= LENGTH_MOST);
-        for (turn, length) in lengths.enumerate() {
+        for (turn, length) in records_longer_than(SMALL.inspect_bytes_most).enumerate() {
             let first = any_first(&mut self.random, SMALL);
             let record = RECORDS[turn % RECORDS.len()](&mut self.random, length);
             self.page(Entry::WriteInspect, &first, record);
@@ -153,10 +153,10 @@ impl Script {
     /// the next one, and in the last one; and the lower of two words.
     fn neighbours_after_the_record(&mut self) {
         for (index, cell) in [(0, 10), (1, 21), (20, 30), (42, 41)] {
-            let value = self.random.draw() as u32;
-            let (first, record) = first_and_record_ending(&mut self.random, index, value, &[cell, cell + 1, cell + 2]);
+            let cells = [cell, cell + 1, cell + 2];
+            let (first, record) = first_and_record_ending(&mut self.random, SMALL, index, 77, &cells);
             let page = inspect_page(&first, &record);
-            let end = byte_ends(&page)[usize::from(page[1]) - 1].1;
+            let end = byte_ends(&page)[record.len() - 1].1;
             for (of, cell) in [(index, end), (index, CELLS - 2), (index + 1, 0), (SMALL.words - 1, CELLS - 2)] {
                 let cells = with_neighbours(words_of(&page)[of], cell);
                 self.page_with(Entry::ReadInspect, &with_word(page.clone(), of, cells), 9);
@@ -188,20 +188,19 @@ impl Script {
     /// such a length with a word that is not legal.
     fn lengths_too_large(&mut self) {
         for fewer in 4..=6 {
-            let first = first_taking_less(fewer);
+            let first = first_taking_less(SMALL, fewer);
             self.page(Entry::WriteInspect, &first, vec![0; 247]);
-            let page = with_byte(with_byte(first, 0, INSPECTED), 1, 247);
-            self.page_with(Entry::ReadInspect, &page, 247);
+            self.page_with(Entry::ReadInspect, &naming(&first, 247), 247);
         }
         for (turn, index) in INDICES.into_iter().take(6).enumerate() {
             let first = any_first(&mut self.random, SMALL);
             let page = inspect_page(&first, &record_for(&mut self.random, &first, 0));
             let most = bits_in(&page) / 8;
-            for length in [most, most + 1, INSPECT_BYTES_MOST] {
-                self.page_with(Entry::ReadInspect, &with_byte(page.clone(), 1, length as u8), 20 * turn);
+            for length in [most, most + 1, SMALL.inspect_bytes_most] {
+                self.page_with(Entry::ReadInspect, &with_length(page.clone(), length), 20 * turn);
             }
             let sum = with_word(page, index, sum_too_large(&mut self.random));
-            self.page_with(Entry::ReadInspect, &with_byte(sum, 1, INSPECT_BYTES_MOST as u8), 20);
+            self.page_with(Entry::ReadInspect, &with_length(sum, SMALL.inspect_bytes_most), 20);
         }
     }
 
@@ -255,7 +254,7 @@ impl Script {
 
     /// Wrong lengths of the page.
     fn inspect_page_lengths(&mut self) {
-        for length in wrong_page_lengths(Entry::WriteInspect) {
+        for length in NO_PAGE_LENGTHS {
             let [first, page] = [any_first, any_inspect].map(|page| page(&mut self.random, SMALL));
             let first = resized(&mut self.random, first, length);
             self.page_with(Entry::WriteInspect, &first, length % 3);
@@ -280,8 +279,8 @@ impl Script {
 mod tests {
     use super::*;
     use crate::answer::{number, Answer, Refusal};
-    use crate::inspect::{walks, without_pairs, Step};
-    use crate::page::FIRST_ROUND;
+    use crate::inspect::{walks_of, without_pairs, Step};
+    use crate::page::{length_of, FIRST_ROUND};
     use crate::word::{has_neighbours, sum, LAST_CELL};
     use std::collections::HashSet;
     use std::sync::OnceLock;
@@ -305,11 +304,6 @@ mod tests {
     /// The pages of accepted calls of the entry with their records, as they are after the call.
     fn accepted(entry: Entry) -> impl Iterator<Item = &'static [u8]> {
         of_entry(entry).filter(|(.., answer)| answer.is_ok()).map(|(_, after, _)| &after.page[..])
-    }
-
-    /// The steps of the walks that the record of the page takes.
-    fn walks_of(page: &[u8]) -> Vec<Vec<Step>> {
-        walks(&words_of(page), 8 * usize::from(page[1]))
     }
 
     /// The figures of Change 7: pages of one value, what the record is filled with, its length, and the answer.
@@ -438,14 +432,14 @@ mod tests {
     fn lengths_about_what_the_walks_take() {
         let lacking = |(call, _, answer): &(Call, Call, Answer)| {
             let bits = matches!(number(*answer), 0 | 3 | 9).then(|| bits_in(&call.page) as isize);
-            bits.map(|bits| (8 * isize::from(call.page[1]) - bits, number(*answer)))
+            bits.map(|bits| (8 * length_of(&call.page) as isize - bits, number(*answer)))
         };
         let met: HashSet<_> = of_entry(Entry::ReadInspect).filter_map(lacking).collect();
         for one in [(0, 0), (1, 9), (2, 9)] {
             assert!(met.contains(&one), "never {one:?}");
         }
         let both = |(call, _, answer): &&(Call, Call, Answer)| {
-            number(*answer) == 7 && 8 * usize::from(call.page[1]) > bits_in(&call.page)
+            number(*answer) == 7 && 8 * length_of(&call.page) > bits_in(&call.page)
         };
         assert!(of_entry(Entry::ReadInspect).filter(both).count() >= 6);
     }
@@ -454,7 +448,7 @@ mod tests {
     fn outputs_one_short_exact_and_longer() {
         let met: HashSet<_> = of_entry(Entry::ReadInspect)
             .filter(|(call, ..)| call.page.len() == SMALL.bytes)
-            .map(|(call, _, answer)| (call.page[1], call.other.len(), number(*answer)))
+            .map(|(call, _, answer)| (length_of(&call.page), call.other.len(), number(*answer)))
             .collect();
         for (length, output) in [(1, 1), (126, 126), (247, 247)] {
             assert!(met.contains(&(length, output - 1, 3)) && met.contains(&(length, output, 0)), "{length}");

@@ -1,13 +1,10 @@
 //! The fixed calls with pages of 512 bytes: a few of each kind, since such a page takes twice the room. Where one call of
 //! several would do, it is one that prints no page.
 
-use super::{Script, LENGTH_MOST};
+use super::{records_longer_than, Script};
 use crate::call::{Call, Entry};
-use crate::cases::files::zeros;
-use crate::cases::inspect::{any_inspect, large_inspect};
-use crate::cases::lengths::{
-    resized, resized_with, wrong_data_lengths, wrong_page_lengths, AFTER_A_PAGE, FAR_RECORD_LENGTHS,
-};
+use crate::cases::inspect::{any_inspect, inspect_page};
+use crate::cases::lengths::{resized, resized_with, wrong_data_lengths, AFTER_A_PAGE, NO_PAGE_LENGTHS};
 use crate::cases::pages::*;
 use crate::cases::words::{
     never_sound, sum_too_large, value_with_pulses, with_bare_hole, with_hole, with_neighbours, with_one_data_cell,
@@ -24,19 +21,21 @@ const SEED: u64 = 2_024;
 /// starts with byte 256.
 const INDICES: [usize; 8] = [0, 1, 21, 43, 44, 45, 86, 87];
 
-/// A valid page of each state; the last as the Inspect code would leave it.
+/// A valid page of each state.
 const MAKERS: [Maker; 5] = [blank, any_first, any_filled, any_second, any_inspect];
 
 /// For pages of each state but a blank one, an entry that takes them and prints no page.
-const READERS: [(Maker, Entry); 4] = [
+const READERS: [(Maker, Entry); 5] = [
     (any_first, Entry::ReadFirst),
     (any_first, Entry::PageCapacity),
     (any_filled, Entry::PageCapacity),
     (any_second, Entry::ReadSecond),
+    (any_inspect, Entry::ReadInspect),
 ];
 
 /// The same for those that print one.
-const WRITERS: [(Maker, Entry); 2] = [(any_first, Entry::FillPage), (any_filled, Entry::WriteSecond)];
+const WRITERS: [(Maker, Entry); 3] =
+    [(any_first, Entry::FillPage), (any_filled, Entry::WriteSecond), (any_first, Entry::WriteInspect)];
 
 /// The calls with pages of 512 bytes. Their bytes are drawn apart from those of the other calls.
 pub fn calls() -> Vec<Call> {
@@ -56,8 +55,7 @@ pub fn calls() -> Vec<Call> {
     script.large_data_lengths();
     script.large_first_outputs();
     script.large_second_outputs();
-    script.refused_by_inspect();
-    let entries = Entry::OF_PAGES.into_iter().filter(|entry| entry.takes(LARGE));
+    let entries = Entry::OF_PAGES.into_iter().filter(|entry| !Entry::OF_INSPECT.contains(entry));
     entries.for_each(|entry| script.orders_of(entry, LARGE));
     script.calls
 }
@@ -87,7 +85,7 @@ impl Script {
     fn large_records(&mut self) {
         let filled = filled_page(&page_of(LARGE, SPARSE_VALUE));
         [82, 83, 126, 127].into_iter().for_each(|length| self.page_with(Entry::WriteSecond, &filled, length));
-        for length in FAR_RECORD_LENGTHS.into_iter().filter(|length| (255..=LENGTH_MOST).contains(length)) {
+        for length in records_longer_than(LARGE.second_bytes_most) {
             let filled = any_filled(&mut self.random, LARGE);
             self.page_with(Entry::WriteSecond, &filled, length);
         }
@@ -153,7 +151,7 @@ impl Script {
         }
     }
 
-    /// Too few data cells, and the first and the last spare data cell set; byte 1 at the ends of what it may be on each
+    /// Too few data cells, and the first and the last spare data cell set; the length at the ends of what it may be on each
     /// size, over the most and the least capacity.
     fn large_data_cells(&mut self) {
         for (value, length) in [(SPARSE_VALUE, 164), (243, 1), (0, 252)] {
@@ -162,12 +160,12 @@ impl Script {
             for spare in [8 * length, found - 1] {
                 self.page_with(Entry::ReadSecond, &with_data_cell(second.clone(), spare), 20);
             }
-            self.page_with(Entry::ReadSecond, &with_byte(second, 1, (found / 8 + 1).min(253) as u8), 20);
+            self.page_with(Entry::ReadSecond, &with_length(second, (found / 8 + 1).min(253)), 20);
         }
         for (shape, value) in [(LARGE, 0), (LARGE, SPARSE_VALUE), (SMALL, 0)] {
             let second = second_page(&page_of(shape, value), &[]);
             for length in [126, 127, 165, 166, 253, 254, 255] {
-                self.page_with(Entry::ReadSecond, &with_byte(second.clone(), 1, length), usize::from(length));
+                self.page_with(Entry::ReadSecond, &with_length(second.clone(), length), length);
             }
         }
     }
@@ -177,7 +175,7 @@ impl Script {
         let states = [(0, 0x00), (0, 0x02), (0, 0x81)];
         let header_bytes = [(1, 1), (1, 254), (1, 255), (2, 1), (2, 128)];
         for (turn, (place, byte)) in states.into_iter().chain(header_bytes).enumerate() {
-            for (maker, entry) in READERS.into_iter().chain([WRITERS[turn % 2]]) {
+            for (maker, entry) in READERS.into_iter().chain([WRITERS[turn % 3]]) {
                 let page = maker(&mut self.random, LARGE);
                 self.page_with(entry, &with_byte(page, place, byte), 9);
             }
@@ -188,17 +186,17 @@ impl Script {
     fn tails(&mut self) {
         for (turn, place) in LARGE.tail().enumerate() {
             let byte = [0x01, 0x80, 0xFF][turn];
-            for maker in &MAKERS[..4] {
+            for maker in MAKERS {
                 let page = with_byte(maker(&mut self.random, LARGE), place, byte);
-                for entry in Entry::taking(page[0], LARGE) {
+                for entry in Entry::taking(page[0]) {
                     self.page_with(entry, &page, if entry == Entry::WriteFirst { LARGE.first_bytes } else { 9 });
                 }
             }
         }
     }
 
-    /// The same with byte 1 or byte 2 out of its range, or with another of these bytes, and with a word that is not sound:
-    /// 6 comes before 7.
+    /// The same with byte 1 or byte 2 at 254, or with another of these bytes, and with a word that is not sound: 6 comes
+    /// before 7.
     fn tails_and_more(&mut self) {
         for (place, (maker, entry)) in LARGE.tail().flat_map(|place| READERS.map(|pair| (place, pair))) {
             let page = with_byte(maker(&mut self.random, LARGE), place, self.random.byte_from(1));
@@ -215,25 +213,26 @@ impl Script {
         }
     }
 
-    /// Valid pages of another state than the entry's, and cells that are sound in states 01, 03 and 07 alike.
+    /// Valid pages of another state than the entry's, and cells that are sound in states 01, 03, 07 and 09 alike.
     fn large_states(&mut self) {
         let pages = MAKERS.map(|page| page(&mut self.random, LARGE));
-        let entries = [Entry::ReadFirst, Entry::PageCapacity, Entry::FillPage, Entry::WriteSecond, Entry::ReadSecond];
-        for (entry, page) in entries.into_iter().flat_map(|entry| pages.iter().map(move |page| (entry, page))) {
+        let entries = Entry::OF_PAGES.into_iter().filter(|entry| *entry != Entry::WriteFirst);
+        for (entry, page) in entries.flat_map(|entry| pages.iter().map(move |page| (entry, page))) {
             if !entry.states().contains(&page[0]) {
                 self.page_with(entry, page, 1);
             }
         }
         let first = first_page(&by_turns(LARGE, &[SPARSE_VALUE, ODD_VALUE]));
-        for state in [0x00, 0x01, 0x02, 0x03, 0x07] {
+        for state in [0x00, 0x01, 0x02, 0x03, 0x07, 0x09] {
             let page = with_byte(first.clone(), 0, state);
-            [Entry::PageCapacity, Entry::ReadSecond].into_iter().for_each(|entry| self.page_with(entry, &page, 20));
+            let entries = [Entry::PageCapacity, Entry::ReadSecond, Entry::ReadInspect];
+            entries.into_iter().for_each(|entry| self.page_with(entry, &page, 20));
         }
     }
 
     /// Pages of 512 bytes that are cut, or followed by other bytes, to lengths that no page has.
     fn large_lengths(&mut self) {
-        for length in wrong_page_lengths(Entry::ReadFirst).into_iter().filter(|&length| length > SMALL.bytes) {
+        for length in NO_PAGE_LENGTHS.into_iter().filter(|&length| length > SMALL.bytes) {
             for (maker, entry) in READERS {
                 let page = maker(&mut self.random, LARGE);
                 let page = resized(&mut self.random, page, length);
@@ -265,6 +264,10 @@ impl Script {
             let second = second_page(&page_of(LARGE, 0), &self.random.bytes(length));
             self.page_with(Entry::ReadSecond, &second[..SMALL.bytes], 126);
         }
+        for length in [20, 247, 248, 256, 300] {
+            let page = inspect_page(&page_of(LARGE, 0), &vec![0; length]);
+            self.page_with(Entry::ReadInspect, &page[..SMALL.bytes], 20);
+        }
     }
 
     /// Wrong lengths of the data.
@@ -289,23 +292,6 @@ impl Script {
             outputs.into_iter().for_each(|length| self.page_with(Entry::ReadSecond, &second, length));
         }
     }
-
-    /// The entries of the Inspect code refuse 512 bytes by 1 in every state: valid pages, what the code would leave there,
-    /// and a page of 256 bytes before others.
-    fn refused_by_inspect(&mut self) {
-        for page in MAKERS.map(|page| page(&mut self.random, LARGE)) {
-            Entry::OF_INSPECT.into_iter().for_each(|entry| self.page_with(entry, &page, 20));
-        }
-        for length in [0, 247] {
-            let page = large_inspect(&page_of(LARGE, 0), &vec![0; length]);
-            self.page_with(Entry::ReadInspect, &page, length);
-        }
-        let [first, inspect] = [any_first, any_inspect].map(|page| page(&mut self.random, SMALL));
-        for (entry, page) in [(Entry::WriteInspect, first), (Entry::ReadInspect, inspect)] {
-            let page = resized_with(&mut self.random, page, LARGE.bytes, zeros);
-            self.page_with(entry, &page, 247);
-        }
-    }
 }
 
 #[cfg(test)]
@@ -314,6 +300,7 @@ mod tests {
     use crate::answer::{number, Answer, Refusal};
     use crate::case::Place;
     use crate::coverage::Coverage;
+    use crate::page::length_of;
     use std::collections::HashSet;
     use std::sync::OnceLock;
 
@@ -333,20 +320,26 @@ mod tests {
         of_entry.map(|(call, answer)| (class(call), *answer)).collect()
     }
 
-    /// Each entry is accepted on 512 bytes, and refused by each of its numbers but 1; those of the Inspect code refuse by 1
-    /// alone, in every state.
+    /// Each entry but those of the Inspect code, whose calls come after these, is accepted on 512 bytes, and refused by each
+    /// of its numbers but 1.
     #[test]
     fn every_answer_on_512_bytes() {
-        for entry in Entry::OF_PAGES {
+        for entry in Entry::OF_PAGES.into_iter().filter(|entry| !Entry::OF_INSPECT.contains(entry)) {
             let met: HashSet<u8> = met(entry, 512, |_| ()).into_iter().map(|(_, answer)| number(answer)).collect();
-            let all: HashSet<u8> = [0].iter().chain(entry.refusals()).copied().filter(|&number| number != 1).collect();
-            let wanted = if Entry::OF_INSPECT.contains(&entry) { HashSet::from([1]) } else { all };
-            assert_eq!(met, wanted, "{}", entry.name());
+            let wanted = [0].iter().chain(entry.refusals()).copied().filter(|&number| number != 1);
+            assert_eq!(met, wanted.collect(), "{}", entry.name());
         }
+    }
+
+    /// The entries of the Inspect code refuse no page of 512 bytes by 1, and each state but their own by 5.
+    #[test]
+    fn every_state_for_the_inspect_code() {
         for entry in Entry::OF_INSPECT {
-            let states: HashSet<u8> =
-                met(entry, 512, |call| call.page[0]).into_iter().map(|(state, _)| state).collect();
-            assert_eq!(states, HashSet::from([0x00, 0x01, 0x03, 0x07, 0x09]));
+            let met = met(entry, 512, |call| call.page[0]);
+            assert!(met.iter().all(|(_, answer)| number(*answer) != 1), "{}", entry.name());
+            for state in [0x00, 0x01, 0x03, 0x07, 0x09].into_iter().filter(|state| !entry.states().contains(state)) {
+                assert!(met.contains(&(state, Err(Refusal::STATE))), "{} {state}", entry.name());
+            }
         }
     }
 
@@ -392,7 +385,7 @@ mod tests {
                 assert!(met.contains(&(state, Err(Refusal::word(index)))), "{} {state} {index}", entry.name());
             }
         }
-        for (entry, index) in WRITERS.into_iter().flat_map(|(_, entry)| [0, 43, 44, 86].map(|index| (entry, index))) {
+        for (entry, index) in WRITERS[..2].iter().flat_map(|(_, entry)| [0, 43, 44, 86].map(|index| (*entry, index))) {
             assert!(met(entry, 512, |_| ()).contains(&((), Err(Refusal::word(index)))), "{} {index}", entry.name());
         }
     }
@@ -426,25 +419,24 @@ mod tests {
 
     #[test]
     fn outputs_of_read_second() {
-        let met = met(Entry::ReadSecond, 512, |call| (call.page[1], call.other.len()));
+        let met = met(Entry::ReadSecond, 512, |call| (length_of(&call.page), call.other.len()));
         for length in [1, 165, 253] {
-            let output = usize::from(length);
-            assert!(met.contains(&((length, output - 1), Err(Refusal::OUTPUT_LENGTH))), "{length}");
-            assert!(met.contains(&((length, output), Ok(u64::from(length)))), "{length}");
-            assert!(met.iter().any(|((of, longer), answer)| *of == length && *longer > output && answer.is_ok()));
+            assert!(met.contains(&((length, length - 1), Err(Refusal::OUTPUT_LENGTH))), "{length}");
+            assert!(met.contains(&((length, length), Ok(length as u64))), "{length}");
+            assert!(met.iter().any(|((of, longer), answer)| *of == length && *longer > length && answer.is_ok()));
         }
     }
 
-    /// Byte 1 at the ends of what it may be on each size, over pages of no record.
+    /// The length at the ends of what it may be on each size, over pages of no record.
     #[test]
     fn every_end_of_byte_1() {
         for (shape, value, fits, most) in [(LARGE, 0, 253, 253), (LARGE, SPARSE_VALUE, 165, 253), (SMALL, 0, 126, 126)]
         {
-            let cells = &second_page(&page_of(shape, value), &[])[2..];
-            let met = met(Entry::ReadSecond, shape.bytes, |call| (call.page[1], &call.page[2..] == cells));
+            let cells = &second_page(&page_of(shape, value), &[])[3..];
+            let met = met(Entry::ReadSecond, shape.bytes, |call| (length_of(&call.page), &call.page[3..] == cells));
             for length in [126, 127, 165, 166, 253, 254, 255] {
                 let wanted = match length {
-                    _ if length <= fits => Ok(u64::from(length)),
+                    _ if length <= fits => Ok(length as u64),
                     _ if length <= most => Err(Refusal::DATA_CELLS),
                     _ => Err(Refusal::HEADER),
                 };
@@ -461,8 +453,10 @@ mod tests {
             (Entry::PageCapacity, 1, [0, 6, 7]),
             (Entry::PageCapacity, 3, [7, 6, 7]),
             (Entry::ReadSecond, 7, [7, 6, 9]),
+            (Entry::ReadInspect, 9, [3, 6, 7]),
             (Entry::FillPage, 1, [0, 6, 7]),
             (Entry::WriteSecond, 3, [7, 6, 7]),
+            (Entry::WriteInspect, 1, [0, 6, 7]),
         ] {
             let class = |call: &Call| (call.page[0], call.page[256..].to_vec());
             let met = met(entry, 512, class);
@@ -474,5 +468,9 @@ mod tests {
         }
         let cut = met(Entry::ReadSecond, 256, |call| call.page[1]);
         assert!(cut.contains(&(20, Ok(20))) && cut.contains(&(200, Err(Refusal::HEADER))));
+        let cut = met(Entry::ReadInspect, 256, |call| length_of(&call.page));
+        let refused = [248, 256, 300].map(|length| (length, Err(Refusal::HEADER)));
+        let sound = [(20, Ok(20)), (247, Err(Refusal::OUTPUT_LENGTH))];
+        assert!(sound.iter().chain(&refused).all(|one| cut.contains(one)));
     }
 }

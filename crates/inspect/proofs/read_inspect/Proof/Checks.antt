@@ -29,7 +29,7 @@ use Rattle.inspect.proofs.Rows.{length-unwalkedAll, readAllUpTo-append,
 use Rattle.inspect.proofs.Halves.{Halved, words-split}
 
 abbrev blank : List ℕ
-blank = replicate 256 0
+blank = replicate 252 0
 
 -- words read from a part of a page into a buffer: how many of n are legal so, and the bits of these
 abbrev pub ReadFrom : List ℕ → ℕ → ℕ → ℕ → List ℕ → ℕ → ℕ → List ℕ → Type 0
@@ -118,8 +118,8 @@ module _ (s : Shape) (h : Halved s) (P out : List ℕ) (b : Bytes P) (header : R
       front-held : front ≡ putCells blank 0 front-bits
       front-held = e .1 .1 ∙ ap (λ (j : ℕ). putCells blank 0 (readAllUpTo (8 * k) (pageWords P j))) all-44
 
-      pub front-length : length front ≡ 256
-      front-length = ap length front-held ∙ length-putCells blank 0 front-bits ∙ length-replicate 256 zero
+      pub front-length : length front ≡ 252
+      front-length = ap length front-held ∙ length-putCells blank 0 front-bits ∙ length-replicate 252 zero
 
       pub front-wanted : n ≤ 8 * k
       front-wanted = omega (arith, front-count, readAll-most (8 * k) xs)
@@ -136,14 +136,14 @@ module _ (s : Shape) (h : Halved s) (P out : List ℕ) (b : Bytes P) (header : R
 
       carried-bits : carried ≡ putCells blank 0 (drop (8 * (n / 8)) front-bits)
       carried-bits =
-          carried-is ∙ buffer-carry 256 front-bits (omega (arith, front-count, front-few)) (n / 8) (omega (arith, front-count)) (omega (arith, front-count)) (omega (arith, front-few))
+          carried-is ∙ buffer-carry 252 front-bits (omega (arith, front-count, front-few)) (n / 8) (omega (arith, front-count)) (omega (arith, front-count)) (omega (arith, front-few))
 
       -- after those it holds 0
       pub carried-clear : someSet (drop (n % 8) (bits carried)) ≡ false
       carried-clear =
           let r = drop (8 * (n / 8)) front-bits in
           let o : n % 8 ≡ length r = omega (arith, front-count, length-drop (8 * (n / 8)) front-bits) in
-          ap₂ (λ (j : ℕ) (q : List ℕ). someSet (drop j (bits q))) o carried-bits ∙ buffer-clear 256 r (omega (arith, o))
+          ap₂ (λ (j : ℕ) (q : List ℕ). someSet (drop j (bits q))) o carried-bits ∙ buffer-clear 252 r (omega (arith, o))
 
       -- the second half read up to word j, with m bits
       module _ (j m : ℕ) (back : List ℕ) (g : ReadFrom (drop 253 P) (n % 8) (8 * k - n) after carried j m back) where
@@ -172,9 +172,9 @@ module _ (s : Shape) (h : Halved s) (P out : List ℕ) (b : Bytes P) (header : R
           back-held : back ≡ putCells carried (n % 8) back-bits
           back-held = g .1 .1 ∙ ap (λ (i : ℕ). putCells carried (n % 8) (readAllUpTo (8 * k - n) (pageWords (drop 253 P) i))) all-after
 
-          pub back-length : length back ≡ 256
+          pub back-length : length back ≡ 252
           back-length =
-              ap length back-held ∙ length-putCells carried (n % 8) back-bits ∙ length-set blank 0 (getD front (n / 8) 0) ∙ length-replicate 256 zero
+              ap length back-held ∙ length-putCells carried (n % 8) back-bits ∙ length-set blank 0 (getD front (n / 8) 0) ∙ length-replicate 252 zero
 
           both : foundOf inspectCode s P ≡ front-bits ++ back-bits
           both = found-is ∙ ap (λ (a : ℕ). front-bits ++ readAllUpTo (8 * k - a) ys) (sym front-count)
@@ -213,7 +213,7 @@ module _ (s : Shape) (h : Halved s) (P out : List ℕ) (b : Bytes P) (header : R
                 let o : n % 8 ≡ length front-bits - 8 * (n / 8) = omega (arith, front-count) in
                 ap₂ (λ (x y : List ℕ). take (n / 8) x ++ take (k - n / 8) y) front-held
                 (back-held ∙ ap₂ (λ (x : List ℕ) (a : ℕ). putCells x a back-bits) carried-is o)
-                ∙ buffer-seam 256 front-bits (omega (arith, front-count, front-few)) (n / 8) (omega (arith, front-count)) (omega (arith, front-count)) (omega (arith, front-few))
+                ∙ buffer-seam 252 front-bits (omega (arith, front-count, front-few)) (n / 8) (omega (arith, front-count)) (omega (arith, front-count)) (omega (arith, front-few))
                 k back-bits (omega (arith, front-wanted)) (omega (arith, front-count, back-count)) (omega (arith, back-few))
                 ∙ ap₂ bytes ek (sym both)
 

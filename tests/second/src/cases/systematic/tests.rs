@@ -8,7 +8,8 @@ use crate::cases::inspect::{bits_in, byte_ends};
 use crate::cases::words::END_VALUES;
 use crate::coverage::Coverage;
 use crate::file::file_bytes;
-use crate::page::{known_shape, page_capacity, read_second, Words, FILLED, INSPECTED, SECOND_ROUND};
+use crate::inspect::read_inspect;
+use crate::page::{known_shape, length_of, page_capacity, read_second, Words, FILLED, INSPECTED, SECOND_ROUND};
 use crate::word::{decode_word, pulses, read_back, separators, separators_from, well_formed};
 use std::collections::HashSet;
 use std::fmt::Debug;
@@ -54,10 +55,9 @@ where
     occurs(entry, wanted, |call, answer| of_shape(call).then(|| class(call, answer)).into_iter().flatten());
 }
 
-/// Each page entry with each shape that it takes and each state that it asks for.
+/// Each page entry with each shape and each state that it asks for.
 fn asked() -> impl Iterator<Item = (Entry, Shape, u8)> {
-    Entry::with_shapes(&Entry::OF_PAGES)
-        .flat_map(|(entry, shape)| entry.states().iter().map(move |&state| (entry, shape, state)))
+    Entry::with_states().flat_map(|(entry, state)| Shape::BOTH.map(|shape| (entry, shape, state)))
 }
 
 /// Refused neither 1 nor 2, so that the page is looked at.
@@ -104,7 +104,7 @@ fn capacity_kind(filled: &[u8]) -> &'static str {
 
 #[test]
 fn the_number_of_calls() {
-    assert_eq!(answered().len(), 291_851);
+    assert_eq!(answered().len(), 426_455);
 }
 
 /// These calls alone meet every counter of a run but those of the other places of the buffers.
@@ -136,20 +136,20 @@ fn every_state_byte() {
     }
 }
 
-/// "for Inspect still not 256": every state of a page of 512 bytes is refused 1.
+/// "Refusal 1 there becomes neither 256 nor 512": no page of either size is refused 1.
 #[test]
-fn every_state_byte_of_a_page_that_the_inspect_code_does_not_take() {
-    for entry in Entry::OF_INSPECT {
-        occurs_on(LARGE, entry, 0..=255, |call, answer| (number(answer) == 1).then(|| call.page[0]));
-    }
+fn no_page_of_either_size_is_refused_1() {
+    let refused = answered().iter().filter(|(call, answer)| call.entry.takes_page() && number(*answer) == 1);
+    assert!(refused.into_iter().all(|(call, _)| Shape::of(&call.page).is_none()));
 }
 
-/// The most that byte 1 may be in this state.
-fn most_named(shape: Shape, state: u8) -> u8 {
+/// The most that the length may be in this state.
+fn most_named(shape: Shape, state: u8) -> usize {
     match (state, shape.bytes) {
         (SECOND_ROUND, 256) => 126,
         (SECOND_ROUND, _) => 253,
-        (INSPECTED, _) => 247,
+        (INSPECTED, 256) => 247,
+        (INSPECTED, _) => 495,
         _ => 0,
     }
 }
@@ -163,20 +163,46 @@ fn number_for_a_byte(state: u8) -> u8 {
     }
 }
 
-/// Every page entry looks at both.
+/// Lengths at the ends of what one byte and each code and size allow, with byte 2 at 0, 1, 2 and 255.
+const LENGTHS_AT_ENDS: [usize; 24] = [
+    1, 125, 126, 127, 246, 247, 248, 252, 253, 254, 255, 256, 257, 494, 495, 496, 497, 511, 512, 513, 8_192, 0xFF00,
+    0xFF7E, 0xFFFF,
+];
+
+/// Every page entry looks at both bytes, each with every value, and at the length that they make.
 #[test]
 fn every_byte_1_and_every_byte_2_under_a_sound_state() {
     for (entry, shape, state) in asked() {
         let most = most_named(shape, state);
-        let sound = |call: &Call, answer| sound_lengths(answer) && call.page[0] == state;
-        let byte_1 = |call: &Call| (call.page[2] == 0).then(|| call.page[1]);
-        let byte_2 = |call: &Call| (call.page[1] <= most).then(|| call.page[2]);
-        occurs_on(shape, entry, 0..=255, |call, answer| sound(call, answer).then(|| byte_1(call)).flatten());
-        occurs_on(shape, entry, 0..=255, |call, answer| sound(call, answer).then(|| byte_2(call)).flatten());
-        let refused = number_for_a_byte(state);
-        let wanted = (most..=255).skip(1).map(|byte| (byte, refused));
+        let sound = |call: &Call, answer| {
+            sound_lengths(answer) && call.page[0] == state && set_after_the_words(&call.page).is_empty()
+        };
+        for place in [1, 2] {
+            occurs_on(shape, entry, 0..=255, |call, answer| sound(call, answer).then(|| call.page[place]));
+        }
+        let refused = |length: usize| if length > most { number_for_a_byte(state) } else { 0 };
+        let wanted = LENGTHS_AT_ENDS.map(|length| (length, refused(length)));
         occurs_on(shape, entry, wanted, |call, answer| {
-            sound(call, answer).then(|| byte_1(call).map(|byte| (byte, number(answer)))).flatten()
+            let number = if number(answer) == number_for_a_byte(state) { number(answer) } else { 0 };
+            sound(call, answer).then(|| (length_of(&call.page), number))
+        });
+    }
+}
+
+/// The readers of both codes meet every length up to 520, and every byte 2 with a byte 1 that alone is a length: refused 6
+/// above the limit alone.
+#[test]
+fn every_length_in_bytes_1_and_2() {
+    for (entry, shape) in Entry::with_shapes(&[Entry::ReadSecond, Entry::ReadInspect]) {
+        let most = most_named(shape, entry.states()[0]);
+        let sure = if entry == Entry::ReadSecond { shape.second_bytes_sure() } else { shape.inspect_bytes_sure() };
+        let beyond = (2..256).flat_map(|byte_2| [0, 126, 247, 253, 255].map(|byte_1| 256 * byte_2 + byte_1));
+        let refused = (most + 1..=520).chain(beyond).map(|length| (length, 6));
+        let not_reached = (sure + 1..=most).map(|length| (length, 9));
+        let read = (0..=most).map(|length| (length, 0));
+        occurs_on(shape, entry, refused.chain(not_reached).chain(read), |call, answer| {
+            let sound = entry.states().contains(&call.page[0]) && set_after_the_words(&call.page).is_empty();
+            sound.then(|| (length_of(&call.page), number(answer)))
         });
     }
 }
@@ -193,7 +219,7 @@ fn every_byte_after_the_words() {
     for (entry, shape, state) in asked().filter(|(_, shape, _)| *shape == LARGE) {
         let wanted = places.clone().map(|(place, byte)| (vec![(place, byte)], number_for_a_byte(state)));
         occurs_on(shape, entry, wanted, |call, answer| {
-            let sound = call.page[0] == state && call.page[1] <= most_named(shape, state) && call.page[2] == 0;
+            let sound = call.page[0] == state && length_of(&call.page) <= most_named(shape, state);
             sound.then(|| (set_after_the_words(&call.page), number(answer)))
         });
     }
@@ -447,7 +473,7 @@ fn every_cell_45_that_is_a_data_cell() {
 /// The word whose cell 45 is the one spare data cell of the page that is set.
 fn spare_cell_45(page: &[u8]) -> Option<usize> {
     let words = words_of(page);
-    let spare = data_cells_of(&words).into_iter().skip(8 * usize::from(page[1]));
+    let spare = data_cells_of(&words).into_iter().skip(8 * length_of(page));
     let set: Vec<_> = spare.filter(|&(index, cell)| words[index][cell]).collect();
     match set[..] {
         [(index, 45)] => Some(index),
@@ -636,7 +662,7 @@ fn outputs_one_short_exact_and_longer() {
         let about = |length: usize| [(length - 1, 3), (length, 0), (length + 1, 0)];
         occurs_on(shape, Entry::ReadFirst, about(first), |call, answer| Some(met(call, answer)));
         for record in records {
-            let named = |call: &Call| usize::from(call.page[1]) == record;
+            let named = |call: &Call| length_of(&call.page) == record;
             occurs_on(shape, Entry::ReadSecond, about(record), |call, answer| {
                 (output_counts(answer) && named(call)).then(|| met(call, answer))
             });
@@ -644,14 +670,13 @@ fn outputs_one_short_exact_and_longer() {
     }
 }
 
-/// 0, 175 to 177, 255 to 257 and 511 to 513 among them: every length but a size that the entry takes is refused 1.
+/// 0, 175 to 177, 255 to 257 and 511 to 513 among them: every length but 256 and 512 is refused 1.
 #[test]
 fn every_page_length_up_to_520() {
     for (entry, _, state) in asked() {
         let sound = |call: &Call| call.page.is_empty() || call.page[0] == state;
         occurs(entry, 0..=520, |call, _| sound(call).then_some(call.page.len()));
-        let taken = |length: &usize| entry.shapes().iter().any(|shape| shape.bytes == *length);
-        let wanted = (0..=520).chain([768, 1_024]).filter(|length| !taken(length));
+        let wanted = (0..=520).chain([768, 1_024]).filter(|length| ![256, 512].contains(length));
         occurs(entry, wanted, |call, answer| (sound(call) && number(answer) == 1).then_some(call.page.len()));
     }
 }
@@ -679,6 +704,12 @@ fn pages_of_the_other_size() {
         (Entry::ReadSecond, true, true, 7),
         (Entry::ReadSecond, false, true, 9),
         (Entry::ReadSecond, false, false, 6),
+        (Entry::WriteInspect, true, true, 0),
+        (Entry::WriteInspect, false, true, 7),
+        (Entry::WriteInspect, false, false, 6),
+        (Entry::ReadInspect, true, true, 0),
+        (Entry::ReadInspect, false, true, 7),
+        (Entry::ReadInspect, false, false, 6),
     ] {
         occurs_on(LARGE, entry, [(zeros, sound, answer)], |call, answer| {
             let small = entry.states().contains(&call.page[0]) && is_page(&call.page[..256]);
@@ -690,12 +721,17 @@ fn pages_of_the_other_size() {
     occurs_on(SMALL, Entry::ReadSecond, [(long, 6), (short, 0)], |call, answer| {
         Some((call.page[..2].to_vec(), number(answer)))
     });
+    // Records of the Inspect code that are longer than 256 bytes take, and one that is not.
+    occurs_on(SMALL, Entry::ReadInspect, [(495, 6), (253, 6), (40, 0)], |call, answer| {
+        Some((length_of(&call.page), number(answer)))
+    });
 }
 
 /// Whether these 256 bytes are a valid page.
 fn is_page(page: &[u8]) -> bool {
     let blank = page.iter().all(|&byte| byte == 0);
-    blank || page_capacity(page).is_ok() || record_on(page).is_some()
+    let inspect = read_inspect(page, &mut [0; SMALL.inspect_bytes_most]).is_ok();
+    blank || inspect || page_capacity(page).is_ok() || record_on(page).is_some()
 }
 
 #[test]
@@ -747,97 +783,154 @@ fn every_data_length_up_to_360() {
     }
 }
 
-/// Every record length 0 to 256 of zeros, of ones and of both, taken or refused 8, over words of one value and over
-/// words that end in each way.
+/// Every record length up to some that are longer than the most, of zeros, of ones and of both, taken or refused 8, over
+/// words of one value and over words that end in each way; and the lengths at the other ends.
 #[test]
 fn every_record_length_by_the_inspect_code() {
-    let [most, least, sparse] = [0, ODD_VALUE, SPARSE_VALUE].map(|value| page_of(SMALL, value));
-    let firsts = [most, least, sparse, first_page(&by_turns(SMALL, &END_VALUES))];
-    let kinds = [0x00, 0xFF, 0x0F];
-    let wanted = (1..=256).flat_map(|length| kinds.map(|kind| (length, kind))).chain([(0, 0x00)]);
-    let wanted = wanted.flat_map(|(length, kind)| (0..4).map(move |first| (first, length, kind)));
-    let kind_of = |record: &[u8]| [0x00, 0xFF].into_iter().find(|kind| record.iter().all(|byte| byte == kind));
-    occurs(Entry::WriteInspect, wanted, |call, answer| {
-        let first = firsts.iter().position(|first| *first == call.page && record_counts(answer));
-        first.map(|first| (first, call.other.len(), kind_of(&call.other).unwrap_or(0x0F)))
-    });
+    for (shape, last) in [(SMALL, 256), (LARGE, 504)] {
+        let [most, least, sparse] = [0, ODD_VALUE, SPARSE_VALUE].map(|value| page_of(shape, value));
+        let firsts = [most, least, sparse, first_page(&by_turns(shape, &END_VALUES))];
+        let kinds = [0x00, 0xFF, 0x0F];
+        let lengths = (1..=last).chain([494, 495, 496, 497, 511, 512, 65_535, 65_536]);
+        let wanted = lengths.flat_map(|length| kinds.map(|kind| (length, kind))).chain([(0, 0x00)]);
+        let wanted = wanted.flat_map(|(length, kind)| (0..4).map(move |first| (first, length, kind)));
+        let kind_of = |record: &[u8]| [0x00, 0xFF].into_iter().find(|kind| record.iter().all(|byte| byte == kind));
+        occurs_on(shape, Entry::WriteInspect, wanted, |call, answer| {
+            let first = firsts.iter().position(|first| *first == call.page && record_counts(answer));
+            first.map(|first| (first, call.other.len(), kind_of(&call.other).unwrap_or(0x0F)))
+        });
+    }
 }
 
-/// Every length that a record has, with outputs one short, exact and longer.
+/// The figures of Changes 7 and 9: what always goes in, over words of which zeros take the least bits, and the most; one
+/// byte more is refused 8 with the bits that the walks take.
+#[test]
+fn records_at_the_ends_of_what_goes_in_by_the_inspect_code() {
+    for (shape, [sure, least], [most, longest]) in
+        [(SMALL, [126, 1_012], [247, 1_980]), (LARGE, [253, 2_024], [495, 3_960])]
+    {
+        let pages = [ODD_VALUE, 0].map(|value| page_of(shape, value));
+        let accepted = [(0, sure, 0, 0), (1, most, 0, 0)];
+        let refused = [(0, sure + 1, 8, least), (1, most + 1, 8, longest)];
+        occurs_on(shape, Entry::WriteInspect, accepted.into_iter().chain(refused), |call, answer| {
+            let zeros = call.other.iter().all(|&byte| byte == 0);
+            let over = pages.iter().position(|page| zeros && *page == call.page);
+            over.map(|over| (over, call.other.len(), number(answer), value(answer) as usize))
+        });
+    }
+}
+
+/// Every length that a record has, with outputs that are empty, one short, exact and longer.
 #[test]
 fn every_record_length_read_back_by_the_inspect_code() {
-    let wanted = (1..=247).flat_map(|length| [(length, -1, 3), (length, 0, 0), (length, 1, 0)]);
-    occurs(Entry::ReadInspect, wanted.chain([(0, 0, 0), (0, 1, 0)]), |call, answer| {
-        let longer = |length: u8| call.other.len() as isize - isize::from(length);
-        output_counts(answer).then(|| (call.page[1], longer(call.page[1]).min(1), number(answer)))
-    });
-    occurs(Entry::ReadInspect, 0..=260, |call, answer| output_counts(answer).then_some(call.other.len()));
+    for (shape, most) in [(SMALL, 247), (LARGE, 495)] {
+        let about = |length: isize| [(length, -length, 3), (length, -1, 3), (length, 0, 0), (length, 1, 0)];
+        let wanted = (1..=most).flat_map(about).chain([(0, 0, 0), (0, 1, 0)]);
+        occurs_on(shape, Entry::ReadInspect, wanted, |call, answer| {
+            let length = length_of(&call.page) as isize;
+            output_counts(answer).then(|| (length, (call.other.len() as isize - length).min(1), number(answer)))
+        });
+        let wanted = 0..=most as usize + 13;
+        occurs_on(shape, Entry::ReadInspect, wanted, |call, answer| output_counts(answer).then_some(call.other.len()));
+    }
 }
 
 /// Every word in which a record ends before cell 44, before cell 45 and after it, and after the first bit of every word
 /// but the first, a cell or a pair.
 #[test]
 fn every_word_that_a_record_ends_in() {
-    let starts = (1..SMALL.words).flat_map(|index| [(index, 1), (index, 2)]);
-    let wanted = || (0..SMALL.words).flat_map(|index| [44, 45, 46].map(|cell| (index, cell))).chain(starts.clone());
     let end = |page: &[u8]| byte_ends(page).last().copied();
-    occurs(Entry::ReadInspect, wanted(), |call, answer| answer.ok().and_then(|_| end(&call.page)));
-    occurs(Entry::WriteInspect, wanted(), |call, answer| {
-        answer.ok().and_then(|_| end(&inspect_page(&call.page, &call.other)))
-    });
+    for shape in Shape::BOTH {
+        let starts = (1..shape.words).flat_map(|index| [(index, 1), (index, 2)]);
+        let wanted = || (0..shape.words).flat_map(|index| [44, 45, 46].map(|cell| (index, cell))).chain(starts.clone());
+        occurs_on(shape, Entry::ReadInspect, wanted(), |call, answer| answer.ok().and_then(|_| end(&call.page)));
+        occurs_on(shape, Entry::WriteInspect, wanted(), |call, answer| {
+            answer.ok().and_then(|_| end(&inspect_page(&call.page, &call.other)))
+        });
+    }
 }
 
 /// How many bits the walks lack: for the record that 8 refuses, and for the length that 9 does; and how many they have
 /// left where both are accepted.
 #[test]
 fn walks_that_lack_1_to_8_bits_and_that_leave_0_to_7() {
-    occurs(Entry::WriteInspect, 1..=8, |call, answer| {
-        (number(answer) == 8).then(|| 8 * call.other.len() as u64 - value(answer))
-    });
-    occurs(Entry::ReadInspect, 1..=8, |call, answer| {
-        (number(answer) == 9).then(|| 8 * usize::from(call.page[1]) - bits_in(&call.page))
-    });
-    occurs(Entry::ReadInspect, 0..8, |call, answer| {
-        answer.ok().map(|length| bits_in(&call.page) - 8 * length as usize)
+    for shape in Shape::BOTH {
+        occurs_on(shape, Entry::WriteInspect, 1..=8, |call, answer| {
+            (number(answer) == 8).then(|| 8 * call.other.len() as u64 - value(answer))
+        });
+        occurs_on(shape, Entry::ReadInspect, 1..=8, |call, answer| {
+            (number(answer) == 9).then(|| 8 * length_of(&call.page) - bits_in(&call.page))
+        });
+        occurs_on(shape, Entry::ReadInspect, 0..8, |call, answer| {
+            answer.ok().map(|length| bits_in(&call.page) - 8 * length as usize)
+        });
+    }
+}
+
+/// On 512 bytes, the walks end before lengths about what one byte names, and reach them: the most that they reach, the
+/// length, and the answer's number.
+#[test]
+fn walks_about_what_one_byte_names() {
+    let reached = [253, 255, 256, 258, 374].map(|most| (most, most, 0));
+    let not = [253, 255, 256, 258, 374].map(|most| (most, most + 1, 9));
+    occurs_on(LARGE, Entry::ReadInspect, reached.into_iter().chain(not), |call, answer| {
+        matches!(number(answer), 0 | 9).then(|| (bits_in(&call.page) / 8, length_of(&call.page), number(answer)))
     });
 }
 
 /// Each bit of a page of the Inspect code flipped by itself; of its cells, some lead to another record, and some to 7.
 #[test]
 fn every_cell_of_a_page_of_the_inspect_code_flipped() {
-    let base = Walk::new(SMALL).inspect;
-    occurs_on(SMALL, Entry::ReadInspect, 0..8 * SMALL.bytes, |call, _| single_flip(&call.page, &base));
-    occurs_on(SMALL, Entry::ReadInspect, [0, 7], |call, answer| {
-        let flipped = Some(&call.page).filter(|page| page[..3] == base[..3]);
-        flipped.and_then(|page| single_flip(page, &base)).map(|_| number(answer))
-    });
+    for (shape, length) in [(SMALL, 154), (LARGE, 309)] {
+        let base = Walk::new(shape).inspect;
+        assert_eq!(length_of(&base), length);
+        occurs_on(shape, Entry::ReadInspect, 0..8 * shape.bytes, |call, _| single_flip(&call.page, &base));
+        occurs_on(shape, Entry::ReadInspect, [0, 7], |call, answer| {
+            let flipped = Some(&call.page).filter(|page| page[..3] == base[..3]);
+            flipped.and_then(|page| single_flip(page, &base)).map(|_| number(answer))
+        });
+    }
+}
+
+/// The pairs of neighbours of the page, as word and cell.
+fn pairs_on(page: &[u8]) -> Vec<(usize, usize)> {
+    let words = words_of(page);
+    let places = (0..words.len()).flat_map(|index| (0..CELLS - 1).map(move |cell| (index, cell)));
+    places.filter(|&(index, cell)| words[index][cell] && words[index][cell + 1]).collect()
 }
 
 /// Two neighbours in each place of each word: read as a pair, or refused.
 #[test]
 fn every_pair_of_neighbours_read_and_not_read() {
-    let wanted = (0..SMALL.words).flat_map(|index| (0..CELLS - 1).map(move |cell| (index, cell)));
-    let pairs = |page: &[u8]| -> Vec<(usize, usize)> {
-        let words = words_of(page);
-        let both = |&(index, cell): &(usize, usize)| words[index][cell] && words[index][cell + 1];
-        (0..SMALL.words).flat_map(|index| (0..CELLS - 1).map(move |cell| (index, cell))).filter(both).collect()
-    };
-    occurs(
-        Entry::ReadInspect,
-        wanted.clone(),
-        |call, answer| {
-            if answer.is_ok() {
-                pairs(&call.page)
-            } else {
-                Vec::new()
+    for shape in Shape::BOTH {
+        let wanted = (0..shape.words).flat_map(|index| (0..CELLS - 1).map(move |cell| (index, cell)));
+        occurs_on(shape, Entry::ReadInspect, wanted.clone(), |call, answer| {
+            answer.map_or(Vec::new(), |_| pairs_on(&call.page))
+        });
+        occurs_on(shape, Entry::ReadInspect, wanted, |call, answer| {
+            let named = refused_word(call, answer).filter(|_| length_of(&call.page) == 0);
+            let of_word = |(of, _)| pairs_on(&call.page).into_iter().filter(move |(index, _)| *index == of);
+            named.into_iter().flat_map(of_word).collect::<Vec<_>>()
+        });
+    }
+}
+
+/// A sum too large before two neighbours, and after them: 7 of both entries names the lower word of every two that are
+/// neighbours or lie half a page apart, so in both halves.
+#[test]
+fn two_words_that_are_not_legal() {
+    for (entry, shape) in Entry::with_shapes(&Entry::OF_INSPECT) {
+        let half = shape.words / 2;
+        let pairs = (0..shape.words - 1).map(|low| (low, low + 1)).chain((0..half).map(|low| (low, low + half)));
+        let wanted = pairs.flat_map(|(low, high)| [(low, high, true), (low, high, false)]);
+        occurs_on(shape, entry, wanted, |call, answer| {
+            let unread = number(answer) == 7 && length_of(&call.page) == 0;
+            let words = unread.then(|| words_of(&call.page)).unwrap_or_default();
+            let bad: Vec<usize> = (0..words.len()).filter(|&index| !crate::word::legal(&words[index])).collect();
+            match bad[..] {
+                [low, high] if value(answer) as usize == low => Some((low, high, first_pair(&words[low]).is_some())),
+                _ => None,
             }
-        },
-    );
-    occurs(Entry::ReadInspect, wanted, |call, answer| {
-        let named = refused_word(call, answer).filter(|_| call.page[1] == 0);
-        named
-            .into_iter()
-            .flat_map(|(of, _)| pairs(&call.page).into_iter().filter(move |(index, _)| *index == of))
-            .collect::<Vec<_>>()
-    });
+        });
+    }
 }
