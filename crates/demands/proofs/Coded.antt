@@ -4,7 +4,7 @@
 use mathlib.Core.Bool.{Bool, true, false}
 use mathlib.Core.List.{List, [], _∷_}
 use mathlib.Core.Path.{_≡_, refl, sym, ap, ap₂, _∙_, subst}
-use Prim.Native.Nat.{ℕ, suc, _+_, _*_, _≤_, _<_}
+use Prim.Native.Nat.{ℕ, suc, _+_, _*_, _/_, _%_, _≤_, _<_}
 use native.Mathlib.Omega.{arith}
 use borrow.Author.Tests.{eqb-true, eqb-false}
 use lib.Dec.{T, eqb}
@@ -18,7 +18,7 @@ use Rattle.window.specs.Words.{Words, pageWords, pageOf}
 use Rattle.window.proofs.Words.{length-pageWords}
 use Rattle.word.specs.Word.{legal}
 use Rattle.rows.specs.declared.shape.Shape.{Shape}
-use Rattle.rows.specs.Page.{state, stateFirst, byte2, tail, recordLength, FirstRoundOf}
+use Rattle.rows.specs.Page.{state, stateFirst, byte1, byte2, tail, recordLength, FirstRoundOf}
 use Rattle.rows.specs.Code.{Code, longest, sure, roomAhead, foundOf, judgedOf, ReadyOf, FitsOf, SecondRoundOf, writtenOf, outcomeOf, recordOf}
 use Rattle.rows.proofs.EachWord.{Each, each-from, each-at, each-word, Row}
 use Rattle.demands.proofs.Laws.{CodeLaws, Told, AheadOf}
@@ -79,7 +79,7 @@ module _ {σ : Shape} (f : Sound σ) {c : Code} (laws : CodeLaws c) (told : Told
 
     pub ahead-is : ahead P ≡ laid (c .over) 0 0 prep t
     ahead-is =
-        before P p ∙ rw (p .byte2-zero) at (laid-put f P (p .of-bytes) (p .sized) (c .over) 0 prep (laws .states .0) (omega arith) prep-row)
+        before P p ∙ laid-put f P (p .of-bytes) (p .sized) (c .over) 0 prep (laws .states .0) (omega arith) prep-row
 
     pub ahead-ready : ReadyOf c σ (ahead P)
     ahead-ready =
@@ -95,7 +95,7 @@ module _ {σ : Shape} (f : Sound σ) {c : Code} (laws : CodeLaws c) (told : Told
     pub ahead-kept : T (kept (bits P) (bits (ahead P)))
     ahead-kept =
         rw ahead-is (subst (λ (Q : List ℕ). T (kept (bits Q) (bits (laid (c .over) 0 0 prep t)))) (laid-round f stateFirst legal P p)
-        (kept-laid f stateFirst (c .over) 0 ws prep t row-of prep-row (laws .states-up .0) (laws .prepare-keeps ws)))
+        (kept-laid f stateFirst (c .over) 0 0 ws prep t row-of prep-row (laws .states-up .0) (laws .prepare-keeps ws)))
 
     pub ahead-clears-none : (i b : ℕ) → T (bit (getD P i 0) b) → T (bit (getD (ahead P) i 0) b)
     ahead-clears-none = kept-bits P (ahead P) (p .sized ∙ sym (ahead-ready .sized)) (p .of-bytes) ahead-kept
@@ -126,12 +126,19 @@ module _ {σ : Shape} (f : Sound σ) {c : Code} (laws : CodeLaws c) (told : Told
           let g : c .room prep (bits R) ≤ c .most * n = rw (prep-row .0) at (laws .at-most prep (bits R) (prepared .0)) in
           omega (arith, g, r .enough)
 
-      small : length R < 256
+      small : length R < 65536
       small = omega (arith, never-in, told)
 
-      pub outcome-is : O ≡ laid (c .into) (length R) 0 vs t
+      -- the length, low byte and high byte
+      abbrev low : ℕ
+      low = length R % 256
+
+      abbrev high : ℕ
+      high = length R / 256
+
+      pub outcome-is : O ≡ laid (c .into) low high vs t
       unfolding outcomeOf
-      outcome-is = rw (p .byte2-zero) at (laid-put f P (p .of-bytes) (p .sized) (c .into) (length R) vs (laws .states .1) small put-row)
+      outcome-is = laid-put f P (p .of-bytes) (p .sized) (c .into) (length R) vs (laws .states .1) small put-row
 
       -- writing over what the step ahead leaves gives the outcome
       pub written-is : writtenOf c σ (ahead P) R ≡ O
@@ -139,40 +146,43 @@ module _ {σ : Shape} (f : Sound σ) {c : Code} (laws : CodeLaws c) (told : Told
       written-is =
           let q = ahead-ready in
           let row = laws .same-words (pageWords (ahead P) n) (bits R) (laid-row f (ahead P) (q .sized) .1) in
-          (rw (q .byte2-zero) at (laid-put f (ahead P) (q .of-bytes) (q .sized) (c .into) (length R) (c .put (pageWords (ahead P) n) (bits R))
-          (laws .states .1) small (row .1 ∙ laid-row f (ahead P) (q .sized) .0, row .0)))
-          ∙ ap₂ (λ (us : List (List Bool)) (u : List ℕ). laid (c .into) (length R) 0 (c .put us (bits R)) u) ahead-words ahead-tail
+          laid-put f (ahead P) (q .of-bytes) (q .sized) (c .into) (length R) (c .put (pageWords (ahead P) n) (bits R))
+          (laws .states .1) small (row .1 ∙ laid-row f (ahead P) (q .sized) .0, row .0)
+          ∙ ap₂ (λ (us : List (List Bool)) (u : List ℕ). laid (c .into) low high (c .put us (bits R)) u) ahead-words ahead-tail
           ∙ sym outcome-is
 
       pub outcome-sized : length O ≡ σ .size
-      outcome-sized = ap length outcome-is ∙ laid-length f (c .into) (length R) 0 vs put-row t ∙ length-tail f P (p .sized)
+      outcome-sized = ap length outcome-is ∙ laid-length f (c .into) low high vs put-row t ∙ length-tail f P (p .sized)
 
       pub outcome-Bytes : Bytes O
-      outcome-Bytes = subst Bytes (sym outcome-is) (laid-Bytes f (c .into) (length R) 0 vs put-row t (laws .states .1) small (omega arith) tail-Bytes)
+      outcome-Bytes = subst Bytes (sym outcome-is) (laid-Bytes f (c .into) low high vs put-row t (laws .states .1) (omega arith) (omega (arith, small)) tail-Bytes)
 
       pub outcome-state : state O ≡ c .into
       unfolding pageOf
       outcome-state = ap state outcome-is
 
-      pub length-back : recordLength O ≡ length R
+      pub outcome-byte1 : byte1 O ≡ low
       unfolding pageOf
-      length-back = ap recordLength outcome-is
+      outcome-byte1 = ap byte1 outcome-is
 
-      pub outcome-byte2 : byte2 O ≡ 0
+      pub outcome-byte2 : byte2 O ≡ high
       unfolding pageOf
       outcome-byte2 = ap byte2 outcome-is
 
+      pub length-back : recordLength O ≡ length R
+      length-back = omega (arith, outcome-byte1, outcome-byte2)
+
       pub outcome-tail : T (zeros (tail n O))
-      outcome-tail = rw (ap (tail n) outcome-is ∙ laid-tail f (c .into) (length R) 0 vs put-row t) (p .tail-zero)
+      outcome-tail = rw (ap (tail n) outcome-is ∙ laid-tail f (c .into) low high vs put-row t) (p .tail-zero)
 
       pub outcome-words : pageWords O n ≡ vs
-      outcome-words = ap (λ (X : List ℕ). pageWords X n) outcome-is ∙ laid-words f (c .into) (length R) 0 vs put-row t
+      outcome-words = ap (λ (X : List ℕ). pageWords X n) outcome-is ∙ laid-words f (c .into) low high vs put-row t
 
       pub writing-clears-none : (i b : ℕ) → T (bit (getD (ahead P) i 0) b) → T (bit (getD O i 0) b)
       writing-clears-none =
           kept-bits (ahead P) O (ahead-ready .sized ∙ sym outcome-sized) (ahead-ready .of-bytes)
           (rw (ahead-is, outcome-is)
-          (kept-laid f (c .over) (c .into) (length R) prep vs t prep-row put-row (laws .states-up .1)
+          (kept-laid f (c .over) (c .into) low high prep vs t prep-row put-row (laws .states-up .1)
           (laws .put-keeps prep (bits R) (prepared .0) (prepared .2))))
 
       -- the record is read back
@@ -205,7 +215,6 @@ module _ {σ : Shape} (f : Sound σ) {c : Code} (laws : CodeLaws c) (told : Told
         of-bytes = outcome-Bytes;
         in-state = outcome-state;
         length-most = omega (arith, length-back, never-in);
-        byte2-zero = outcome-byte2;
         tail-zero = outcome-tail;
         words-pass = λ i q.
             let e : judgedOf c σ O ≡ c .judged (length (bits R)) vs = ap₂ (c .judged) wanted outcome-words in
@@ -282,6 +291,13 @@ module _ {σ : Shape} (f : Sound σ) {c : Code} (laws : CodeLaws c) (told : Told
     unfolding recordOf
     Bytes-S = Bytes-bytes len (foundOf c σ page)
 
+    -- the two bytes of its length
+    low-is : len % 256 ≡ byte1 page
+    low-is = omega (arith, q .of-bytes 1)
+
+    high-is : len / 256 ≡ byte2 page
+    high-is = omega (arith, q .of-bytes 1)
+
     judged-all : Each (c .passes) (judgedOf c σ page)
     judged-all =
         each-from (c .passes) (judgedOf c σ page)
@@ -303,7 +319,9 @@ module _ {σ : Shape} (f : Sound σ) {c : Code} (laws : CodeLaws c) (told : Told
           p,
           r,
           outcome-is P p S r
-              ∙ ap₂ (λ (k : ℕ) (us : List (List Bool)). laid (c .into) k 0 us (tail n P)) length-S again
-              ∙ ap (laid (c .into) len 0 (pageWords page n)) (first-tail page (q .of-bytes) (q .sized) (q .tail-zero) (o .0) (o .1) (o .2) (o .3))
-              ∙ rw (q .in-state, q .byte2-zero) at (laid-own f page (q .of-bytes) (q .sized)),
+              ∙ ap₂ (λ (k : ℕ) (us : List (List Bool)). laid (c .into) (k % 256) (k / 256) us (tail n P)) length-S again
+              ∙ ap (laid (c .into) (len % 256) (len / 256) (pageWords page n))
+              (first-tail page (q .of-bytes) (q .sized) (q .tail-zero) (o .0) (o .1) (o .2) (o .3))
+              ∙ ap₂ (λ (a b : ℕ). laid (c .into) a b (pageWords page n) (tail n page)) low-is high-is
+              ∙ rw (q .in-state) at (laid-own f page (q .of-bytes) (q .sized)),
         )

@@ -1,5 +1,5 @@
 -- The fill code and the Inspect code obey the laws of a code, and the step ahead of each one's writer: so what is demanded of a code holds of
--- both, of the fill code over each known shape of page.
+-- both, over each known shape of page.
 -- Assumes nothing.
 use mathlib.Core.Bool.{Bool, false}
 use mathlib.Core.List.{List, [], _∷_}
@@ -23,7 +23,7 @@ use Rattle.word.proofs.Filling.{length-fill}
 use Rattle.word.proofs.SecondBits.{length-put}
 use Rattle.word.proofs.Claims.{second-bits-kept, well-formed-words}
 use Rattle.rows.specs.declared.shape.Shape.{Shape}
-use Rattle.rows.specs.Page.{page256, shapeOf, stateFirst, stateFilled, withHeader, fillAll, capacityAll, readAll, putAll, filledPage, FirstRoundOf}
+use Rattle.rows.specs.Page.{shapeOf, stateFirst, stateFilled, byte1, withHeader, fillAll, capacityAll, readAll, putAll, filledPage, FirstRoundOf}
 use Rattle.rows.specs.Code.{fillCode}
 use Rattle.rows.proofs.EachWord.{Each, each-sparse}
 use Rattle.rows.proofs.SecondWords.{length-fillAll, length-putAll, Words-fillAll, Words-putAll, read-most, capacity-count, read-back, putAll-spare}
@@ -34,7 +34,7 @@ use Rattle.filled.specs.Answer.{pulsesOf, fillPageAnswer, fillPageLeaves}
 use Rattle.inspect.specs.Rows.{takenAll, unwalkedAll, inspectCode}
 use Rattle.inspect.proofs.Rows.{length-walkedAll, words-walkedAll, length-unwalkedAll, words-unwalkedAll, kept-walkedAll, takenAll-bits, takenAll-most, takenAll-least, readAll-most, legal-unwalkedAll, walkedAll-unwalkedAll, takenAll-unwalkedAll, row-back}
 use Rattle.demands.specs.Demands.{Known, TwiceWrittenOf, WritingOf}
-use Rattle.demands.proofs.Laws.{CodeLaws, Told, HoldsOf, AheadOf}
+use Rattle.demands.proofs.Laws.{CodeLaws, Told, AheadOf}
 use Rattle.demands.proofs.Laid.{laid-row, laid-put, laid-round}
 use Rattle.demands.proofs.Kept.{kept-fillAll}
 use Rattle.demands.proofs.Origins.{formed-putAll, origins}
@@ -145,7 +145,8 @@ inspect-laws = record {
 -- the state put where bytes 1 and 2 are 0
 header-is : {σ : Shape} → Sound σ → (k : ℕ) (P : List ℕ) → FirstRoundOf σ P → k ∷ drop 1 P ≡ withHeader k 0 P
 header-is f k P p =
-    ap (λ (l : List ℕ). k ∷ l) (drop-cons P 1 0 (omega (arith, f .inside, p .sized)) ∙ ap (λ (b : ℕ). b ∷ drop 2 P) (p .byte1-zero))
+    ap (λ (l : List ℕ). k ∷ l) (drop-cons P 1 0 (omega (arith, f .inside, p .sized)) ∙ ap (λ (l : List ℕ). byte1 P ∷ l) (drop-cons P 2 0 (omega (arith, f .inside, p .sized)))
+    ∙ ap₂ (λ (a b : ℕ). a ∷ b ∷ drop 3 P) (p .byte1-zero) (p .byte2-zero))
 
 pub ahead-filled : {σ : Shape} → Sound σ → AheadOf fillCode (filledPage σ) σ
 unfolding filledPage
@@ -166,32 +167,28 @@ module _ {σ : Shape} (f : Sound σ) where
   pub ahead-fill : AheadOf fillCode fillPageLeaves σ
   ahead-fill P p = fill-leaves P p ∙ ahead-filled f P p
 
-  -- one byte tells the length
+  -- two bytes tell the length
   pub told-fill : Told fillCode σ
   told-fill = omega (arith, f .few)
 
   -- ---- demands 2 and 3
 
   pub fill-twice : TwiceWrittenOf fillCode fillPageLeaves σ
-  fill-twice = twice-of f fill-laws told-fill (own-shape f) ahead-fill
+  fill-twice = twice-of f fill-laws told-fill ahead-fill
 
   pub fill-writing : WritingOf fillCode fillPageLeaves σ
-  fill-writing = writing-of f fill-laws told-fill (own-shape f) ahead-fill
+  fill-writing = writing-of f fill-laws told-fill ahead-fill
 
-pub ahead-inspect : AheadOf inspectCode (λ P. P) page256
-ahead-inspect P p =
-    sym (laid-round sound256 stateFirst legal P p)
-    ∙ sym (rw (p .byte2-zero) at (laid-put sound256 P (p .of-bytes) (p .sized) stateFirst 0 (pageWords P 44) (omega arith) (omega arith)
-    (laid-row sound256 P (p .sized))))
+  pub ahead-inspect : AheadOf inspectCode (λ P. P) σ
+  ahead-inspect P p =
+      sym (laid-round f stateFirst legal P p)
+      ∙ sym (laid-put f P (p .of-bytes) (p .sized) stateFirst 0 (pageWords P (σ .words)) (omega arith) (omega arith) (laid-row f P (p .sized)))
 
-pub told-inspect : Told inspectCode page256
-told-inspect = omega arith
+  pub told-inspect : Told inspectCode σ
+  told-inspect = omega (arith, f .few)
 
-pub holds-inspect : HoldsOf inspectCode page256
-holds-inspect P l = refl
+  pub inspect-twice : TwiceWrittenOf inspectCode (λ P. P) σ
+  inspect-twice = twice-of f inspect-laws told-inspect ahead-inspect
 
-pub inspect-twice : TwiceWrittenOf inspectCode (λ P. P) page256
-inspect-twice = twice-of sound256 inspect-laws told-inspect holds-inspect ahead-inspect
-
-pub inspect-writing : WritingOf inspectCode (λ P. P) page256
-inspect-writing = writing-of sound256 inspect-laws told-inspect holds-inspect ahead-inspect
+  pub inspect-writing : WritingOf inspectCode (λ P. P) σ
+  inspect-writing = writing-of f inspect-laws told-inspect ahead-inspect

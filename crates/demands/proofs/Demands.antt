@@ -23,7 +23,7 @@ use Rattle.word.proofs.Claims.{one-legal-word, legal-accepted, capacity-bounds}
 use Rattle.rows.specs.declared.shape.Shape.{Shape}
 use Rattle.rows.specs.Page.{page256, page512, shapeOf, tail, firstRecord, firstPage, filledPage, FirstRoundOf}
 use Rattle.rows.specs.Code.{fillCode, FitsOf, outcomeOf}
-use Rattle.rows.proofs.Shapes.{for-512, for-other, sizes, sound256, sound512, sound-of}
+use Rattle.rows.proofs.Shapes.{for-512, for-other, sizes, Sound, sound256, sound512, sound-of}
 use Rattle.page.specs.Answer.{writeFirstChecks, writeFirstAnswer, firstChecks, readFirstChecks, readFirstAnswer}
 use Rattle.page.proofs.FirstAnswers.{write-first, write-first-1, write-first-2, write-first-4, read-first, read-first-1567, read-first-3, check-refusals, check-taken}
 use Rattle.filled.specs.Answer.{fillPageAnswer, fillPageLeaves, filledChecks, capacityChecks, pageCapacityAnswer}
@@ -139,7 +139,6 @@ demand1 = record {
   neither = neither;
   shape-256 = shape-256;
   shape-512 = shape-512;
-  inspect-shape = λ P. refl;
   write-first-1 = λ P. write-first-1 (shapeOf P) P;
   write-first-2 = λ P. write-first-2 (shapeOf P) P;
   write-first-4 = λ P. write-first-4 (shapeOf P) P;
@@ -166,7 +165,7 @@ demand1 = record {
   read-second = reader-of fillCode (fill-laws .same-judged);
   write-inspect = writer-of inspectCode;
   read-inspect = reader-of inspectCode (inspect-laws .same-judged);
-  longest-lengths = (refl, refl, refl);
+  longest-lengths = (refl, refl, refl, refl);
 }
 
 -- ---- demand 2
@@ -175,22 +174,22 @@ pub demand2 : Demand2
 demand2 = record {
   first-pages = λ s k. first-pages (sound-known s k);
   fill-code = λ s k. fill-twice (sound-known s k);
-  inspect = inspect-twice;
+  inspect = λ s k. inspect-twice (sound-known s k);
 }
 
 -- ---- demand 3
 
-codes-differ : (P Q R S : List ℕ) → FirstRoundOf page256 P → FirstRoundOf page256 Q → FitsOf fillCode page256 R P → FitsOf inspectCode page256 S Q
-    → ¬ (getD (outcomeOf fillCode page256 P R) 0 0 ≡ getD (outcomeOf inspectCode page256 Q S) 0 0)
-codes-differ P Q R S p q r s e = omega (arith, e, fill-writing sound256 .header P R p r .0, inspect-writing .header Q S q s .0)
+codes-differ : {σ : Shape} → Sound σ → (P Q R S : List ℕ) → FirstRoundOf σ P → FirstRoundOf σ Q → FitsOf fillCode σ R P → FitsOf inspectCode σ S Q
+    → ¬ (getD (outcomeOf fillCode σ P R) 0 0 ≡ getD (outcomeOf inspectCode σ Q S) 0 0)
+codes-differ f P Q R S p q r s e = omega (arith, e, fill-writing f .header P R p r .0, inspect-writing f .header Q S q s .0)
 
 pub demand3 : Demand3
 demand3 = record {
   fill-accepted = λ s k P p. let f = sound-known s k in (fill-taken f P p, fill-twice f .ready (fillPageLeaves P) .1 (P, p, refl));
   fill-code = λ s k. fill-writing (sound-known s k);
-  inspect = inspect-writing;
-  codes-differ = codes-differ;
+  inspect = λ s k. inspect-writing (sound-known s k);
+  codes-differ = λ s k. codes-differ (sound-known s k);
   figures = figures-of sound256 _ _ _ _ refl refl refl refl;
   figures-512 = figures-of sound512 _ _ _ _ refl refl refl refl;
-  sure-lengths = (refl, refl, refl);
+  sure-lengths = (refl, refl, refl, refl);
 }

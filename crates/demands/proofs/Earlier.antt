@@ -5,14 +5,14 @@ use mathlib.Core.Bool.{Bool, false}
 use mathlib.Core.List.{List, [], _∷_, _++_}
 use mathlib.Core.Logic.{inl, inr}
 use mathlib.Core.Path.{_≡_, refl, sym, ap, ap₂, _∙_, subst}
-use Prim.Native.Nat.{ℕ, suc, _+_, _*_, _≤_, _<_}
+use Prim.Native.Nat.{ℕ, suc, _+_, _*_, _/_, _%_, _≤_, _<_}
 use native.Mathlib.Omega.{arith}
 use lib.ListN.{length, drop, length-append}
 use Rattle.cells.specs.Bytes.{bits}
 use Rattle.cells.proofs.Bytes.{Bytes-drop}
 use Rattle.answer.specs.Answer.{result, refusal}
 use Rattle.answer.proofs.Chains.{taken-leaves}
-use Rattle.window.specs.Words.{pageWords, Words}
+use Rattle.window.specs.Words.{pageWords, putWords, Words}
 use Rattle.word.specs.Word.{sparse, legal}
 use Rattle.word.specs.Fill.{read, isFilled}
 use Rattle.word.specs.Earlier.{fillEarlier, capacityEarlier}
@@ -30,6 +30,7 @@ use Rattle.demands.specs.Earlier.{fillEarlierAll, roomEarlier, filledEar
 use Rattle.demands.proofs.Laid.{laid, laid-row, laid-words, laid-tail, laid-open, length-tail, laid-put, laid-state}
 use Rattle.demands.proofs.Bounds.{capacity-is, room-is, room-over}
 use Rattle.demands.proofs.Demands.{demand1, demand2, demand3}
+use Rattle.demands.proofs.Lengths.{header-then}
 
 -- ---- words
 
@@ -144,10 +145,11 @@ module _ (P : List ℕ) (p : FirstRoundOf page256 P) where
     unfolding writtenOf outcomeEarlier
     outcome-is =
         let q = filled-filled in
-        (rw (q .byte2-zero) at (laid-put sound256 F (q .of-bytes) (q .sized) stateSecond (length R) (putAll (pageWords F 44) (bits R)) (omega arith) small
-        (row-putAll 44 (pageWords F 44) (bits R) (laid-row sound256 F (q .sized)))))
-        ∙ ap₂ (λ (ws : List (List Bool)) (u : List ℕ). laid stateSecond (length R) 0 (putAll ws (bits R)) u) filled-words filled-tail
-        ∙ sym (rw (p .byte2-zero) at (laid-put sound256 P (p .of-bytes) (p .sized) stateSecond (length R) put-words (omega arith) small put-row))
+        laid-put sound256 F (q .of-bytes) (q .sized) stateSecond (length R) (putAll (pageWords F 44) (bits R)) (omega arith) (omega (arith, small))
+        (row-putAll 44 (pageWords F 44) (bits R) (laid-row sound256 F (q .sized)))
+        ∙ ap₂ (λ (ws : List (List Bool)) (u : List ℕ). laid stateSecond (length R % 256) (length R / 256) (putAll ws (bits R)) u) filled-words filled-tail
+        ∙ sym (laid-put sound256 P (p .of-bytes) (p .sized) stateSecond (length R) put-words (omega arith) (omega (arith, small)) put-row)
+        ∙ ap (λ (l : List ℕ). putWords l put-words) (header-then P stateSecond (length R) (omega (arith, p .sized)) (p .byte2-zero) small)
 
     room-same : roomAhead fillCode page256 P R ≡ roomEarlier P
     room-same = room-over sound256 P R p ∙ sym capacity-same

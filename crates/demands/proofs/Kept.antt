@@ -30,33 +30,33 @@ kept-fillAll [] = tt
 kept-fillAll (w ∷ ws) =
     kept-append w (join ws) (fill w) (join (fillAll ws)) (sym (length-fill false w)) (fill-leaves-no-room .keeps w) (kept-fillAll ws)
 
--- ---- headers: the state gains cells, and the length, which is 0, becomes any byte
+-- ---- headers: the state gains cells, and the length, which is 0, becomes any two bytes
 
-abbrev Header : ℕ → ℕ → List ℕ
-Header a k = a ∷ k ∷ 0 ∷ []
+abbrev Header : ℕ → ℕ → ℕ → List ℕ
+Header a k l = a ∷ k ∷ l ∷ []
 
-header-kept : (a b k : ℕ) → T (kept (cells 8 a) (cells 8 b)) → T (kept (bits (Header a 0)) (bits (Header b k)))
+header-kept : (a b k l : ℕ) → T (kept (cells 8 a) (cells 8 b)) → T (kept (bits (Header a 0 0)) (bits (Header b k l)))
 unfolding bits
-header-kept a b k h =
-    kept-append (cells 8 a) (bits (0 ∷ 0 ∷ [])) (cells 8 b) (bits (k ∷ 0 ∷ [])) (length-cells 8 a ∙ sym (length-cells 8 b)) h zeros-kept
+header-kept a b k l h =
+    kept-append (cells 8 a) (bits (0 ∷ 0 ∷ [])) (cells 8 b) (bits (k ∷ l ∷ [])) (length-cells 8 a ∙ sym (length-cells 8 b)) h zeros-kept
   where
-    zeros-kept : T (kept (bits (0 ∷ 0 ∷ [])) (bits (k ∷ 0 ∷ [])))
+    zeros-kept : T (kept (bits (0 ∷ 0 ∷ [])) (bits (k ∷ l ∷ [])))
     zeros-kept = unfold kept bits cells bit first rest in tt
 
-same-length : (a b k : ℕ) → length (bits (Header a 0)) ≡ length (bits (Header b k))
+same-length : (a b k l : ℕ) → length (bits (Header a 0 0)) ≡ length (bits (Header b k l))
 unfolding bits cells
-same-length a b k = refl
+same-length a b k l = refl
 
 -- ---- pages
 
-pub kept-laid : {σ : Shape} → Sound σ → (a b k : ℕ) (ws vs : List (List Bool)) (t : List ℕ) → Row (σ .words) ws → Row (σ .words) vs
+pub kept-laid : {σ : Shape} → Sound σ → (a b k l : ℕ) (ws vs : List (List Bool)) (t : List ℕ) → Row (σ .words) ws → Row (σ .words) vs
     → T (kept (cells 8 a) (cells 8 b)) → T (kept (join ws) (join vs))
-    → T (kept (bits (laid a 0 0 ws t)) (bits (laid b k 0 vs t)))
-kept-laid {σ} f a b k ws vs t r s h j =
-    rw (laid-bits f a 0 0 ws r t, laid-bits f b k 0 vs s t)
-    (kept-append (bits (Header a 0)) (join ws ++ bits t) (bits (Header b k)) (join vs ++ bits t)
-    (same-length a b k)
-    (header-kept a b k h)
+    → T (kept (bits (laid a 0 0 ws t)) (bits (laid b k l vs t)))
+kept-laid {σ} f a b k l ws vs t r s h j =
+    rw (laid-bits f a 0 0 ws r t, laid-bits f b k l vs s t)
+    (kept-append (bits (Header a 0 0)) (join ws ++ bits t) (bits (Header b k l)) (join vs ++ bits t)
+    (same-length a b k l)
+    (header-kept a b k l h)
     (kept-append (join ws) (bits t) (join vs) (bits t)
     (omega (arith, length-join ws (r .1), length-join vs (s .1), r .0, s .0))
     j

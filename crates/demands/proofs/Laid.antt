@@ -4,7 +4,7 @@
 use mathlib.Core.Bool.{Bool}
 use mathlib.Core.List.{List, [], _∷_, _++_}
 use mathlib.Core.Path.{_≡_, refl, sym, ap, _∙_}
-use Prim.Native.Nat.{ℕ, _+_, _*_, _/_, _<_}
+use Prim.Native.Nat.{ℕ, _+_, _*_, _/_, _%_, _<_}
 use native.Mathlib.Omega.{arith}
 use lib.Dec.{T}
 use lib.ListN.{length, drop, length-drop}
@@ -83,28 +83,34 @@ module _ {σ : Shape} (f : Sound σ) where
   length-tail page l = omega (arith, length-drop (3 + m) page, f .inside)
 
   module _ (page : List ℕ) (hp : Bytes page) (l : length page ≡ σ .size) where
-    -- the first two bytes and the words replaced
-    pub laid-put : (a b : ℕ) (ws : List (List Bool)) → a < 256 → b < 256 → Row n ws
-        → putWords (withHeader a b page) ws ≡ laid a b (byte2 page) ws (tail n page)
-    laid-put a b ws ha hb r =
-        let p : List ℕ = a ∷ b ∷ byte2 page ∷ drop 3 page in
-        ap (λ (x : List ℕ). putWords (a ∷ b ∷ x) ws) (drop-cons page 2 0 (omega arith))
-        ∙ putWords-all ws m (r .1) (whole-row ws r) p
-        (Bytes-three a b (byte2 page) (drop 3 page) ha hb (hp 2) (Bytes-drop 3 page hp)) (omega (arith, length-drop 3 page))
-        ∙ ap (laid a b (byte2 page) ws) (sym (drop-drop m 3 p) ∙ drop-drop m 3 page)
+    -- the first three bytes and the words replaced
+    laid-three : (a b c : ℕ) (ws : List (List Bool)) → a < 256 → b < 256 → c < 256 → Row n ws
+        → putWords (a ∷ b ∷ c ∷ drop 3 page) ws ≡ laid a b c ws (tail n page)
+    laid-three a b c ws ha hb hc r =
+        let p : List ℕ = a ∷ b ∷ c ∷ drop 3 page in
+        putWords-all ws m (r .1) (whole-row ws r) p (Bytes-three a b c (drop 3 page) ha hb hc (Bytes-drop 3 page hp)) (omega (arith, length-drop 3 page))
+        ∙ ap (laid a b c ws) (sym (drop-drop m 3 p) ∙ drop-drop m 3 page)
+
+    -- the header and the words replaced
+    pub laid-put : (a k : ℕ) (ws : List (List Bool)) → a < 256 → k < 65536 → Row n ws
+        → putWords (withHeader a k page) ws ≡ laid a (k % 256) (k / 256) ws (tail n page)
+    laid-put a k ws ha hk r = laid-three a (k % 256) (k / 256) ws ha (omega arith) (omega arith) r
+
+    -- bytes 1 and 2 as they are
+    own-bytes : drop 1 page ≡ byte1 page ∷ byte2 page ∷ drop 3 page
+    own-bytes = drop-cons page 1 0 (omega arith) ∙ ap (λ (x : List ℕ). byte1 page ∷ x) (drop-cons page 2 0 (omega arith))
 
     pub laid-own : laid (state page) (byte1 page) (byte2 page) (pageWords page n) (tail n page) ≡ page
     laid-own =
-        sym (laid-put (state page) (byte1 page) (pageWords page n) (hp 0) (hp 1) (laid-row page l))
+        sym (laid-three (state page) (byte1 page) (byte2 page) (pageWords page n) (hp 0) (hp 1) (hp 2) (laid-row page l))
         ∙ ap (λ (p : List ℕ). putWords p (pageWords page n))
-        (sym (drop-cons page 0 0 (omega arith) ∙ ap (λ (x : List ℕ). state page ∷ x) (drop-cons page 1 0 (omega arith))))
+        (sym (drop-cons page 0 0 (omega arith) ∙ ap (λ (x : List ℕ). state page ∷ x) own-bytes))
         ∙ putWords-own page n hp (omega arith)
 
     -- the state and the words replaced
     pub laid-state : (a : ℕ) (ws : List (List Bool)) → a < 256 → Row n ws
         → putWords (a ∷ drop 1 page) ws ≡ laid a (byte1 page) (byte2 page) ws (tail n page)
-    laid-state a ws ha r =
-        ap (λ (x : List ℕ). putWords (a ∷ x) ws) (drop-cons page 1 0 (omega arith)) ∙ laid-put a (byte1 page) ws ha (hp 1) r
+    laid-state a ws ha r = ap (λ (x : List ℕ). putWords (a ∷ x) ws) own-bytes ∙ laid-three a (byte1 page) (byte2 page) ws ha (hp 1) (hp 2) r
 
     -- a first record written
     pub laid-firstPage : (bs : List ℕ) → firstPage σ page bs ≡ laid 1 (byte1 page) (byte2 page) (firstWords n bs) (tail n page)

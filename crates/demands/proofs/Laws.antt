@@ -43,13 +43,9 @@ pub record CodeLaws (c : Code) : Type 0 where
   pub states : (c .over < 256) × (c .into < 256)
   pub states-up : T (kept (cells 8 stateFirst) (cells 8 (c .over))) × T (kept (cells 8 (c .over)) (cells 8 (c .into)))
 
--- one byte can tell the code's longest record
+-- two bytes can tell the code's longest record
 abbrev pub Told : Code → Shape → Type 0
-Told c σ = longest c σ < 256
-
--- the code holds pages of a shape's size to that shape
-abbrev pub HoldsOf : Code → Shape → Type 0
-HoldsOf c σ = (P : List ℕ) → length P ≡ σ .size → c .shape P ≡ σ
+Told c σ = longest c σ < 65536
 
 -- the step ahead of a code's writer leaves its state, no record, and the prepared words
 abbrev pub AheadOf : Code → (List ℕ → List ℕ) → Shape → Type 0

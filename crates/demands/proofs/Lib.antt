@@ -1,5 +1,5 @@
--- The proofs of the demands (Demands.antt), of a page's pulses (Pulses.antt), of pages filled earlier (Earlier.antt), of the outcome word by word
--- (Outcome.antt) and of the Inspect code's figures (Inspect.antt), and the laws that only they need.
+-- The proofs of the demands (Demands.antt), of a page's pulses (Pulses.antt), of the length of one byte (Lengths.antt), of pages filled earlier
+-- (Earlier.antt), of the outcome word by word (Outcome.antt) and of the Inspect code's figures (Inspect.antt), and the laws that only they need.
 pub mod Origins
 pub mod Laid
 pub mod Kept
@@ -11,6 +11,7 @@ pub mod Codes
 pub mod Bounds
 pub mod Pulses
 pub mod Demands
+pub mod Lengths
 pub mod Earlier
 pub mod Outcome
 pub mod Inspect

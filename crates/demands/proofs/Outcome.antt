@@ -16,9 +16,9 @@ use Rattle.window.specs.Words.{pieces, wordAt, pageWords}
 use Rattle.window.proofs.Words.{getD-pageWords}
 use Rattle.word.specs.Fill.{fillFrom, fill, read, capacity, put}
 use Rattle.rows.specs.declared.shape.Shape.{Shape}
-use Rattle.rows.specs.Page.{page256, shapeOf, blankOf, fillAll, sumOver, capacityAll, putAll, firstPage, filledPage, FirstRoundOf}
+use Rattle.rows.specs.Page.{shapeOf, blankOf, fillAll, sumOver, capacityAll, putAll, firstPage, filledPage, FirstRoundOf}
 use Rattle.rows.specs.Code.{Code, fillCode, roomFor, ReadyOf, FitsOf, writtenOf, outcomeOf}
-use Rattle.rows.proofs.Shapes.{Sound, sound256, sound-of, own-shape}
+use Rattle.rows.proofs.Shapes.{Sound, sound-of}
 use Rattle.page.specs.Answer.{writeFirstAnswer, writeFirstLeaves, writeAnswer, writeLeaves}
 use Rattle.page.proofs.FirstAnswers.{write-first, check-taken}
 use Rattle.filled.specs.Answer.{fillPageAnswer, fillPageLeaves}
@@ -28,7 +28,7 @@ use Rattle.demands.specs.Demands.{WritingOf}
 use Rattle.demands.specs.Outcome.{OutcomeByWords, Keeps, NoCellCleared}
 use Rattle.demands.proofs.Coded.{ahead-words}
 use Rattle.demands.proofs.Written.{writer-of, written-keeps}
-use Rattle.demands.proofs.Codes.{fill-laws, inspect-laws, sound-known, told-fill, told-inspect, holds-inspect, ahead-fill, ahead-inspect, fill-leaves, fill-twice, fill-writing, inspect-writing}
+use Rattle.demands.proofs.Codes.{fill-laws, inspect-laws, sound-known, told-fill, told-inspect, ahead-fill, ahead-inspect, fill-leaves, fill-twice, fill-writing, inspect-writing}
 
 -- ---- word by word
 
@@ -81,13 +81,13 @@ outcome-word {σ} f P R p r i h =
     ∙ getD-put (σ .words) (drop 24 (bits P)) (bits R) i h
     ∙ ap (λ (w : List Bool). put (fill w) (drop (capacityAll (pageWords P i)) (bits R))) (getD-pageWords P (σ .words) i h)
 
-inspect-word : (P R : List ℕ) → FirstRoundOf page256 P → FitsOf inspectCode page256 R P → (i : ℕ) → i < 44
-    → wordAt (outcomeOf inspectCode page256 P R) i ≡ walked (wordAt P i) (drop (takenAll (pageWords P i) (bits R)) (bits R))
+inspect-word : {σ : Shape} → Sound σ → (P R : List ℕ) → FirstRoundOf σ P → FitsOf inspectCode σ R P → (i : ℕ) → i < σ .words
+    → wordAt (outcomeOf inspectCode σ P R) i ≡ walked (wordAt P i) (drop (takenAll (pageWords P i) (bits R)) (bits R))
 unfolding pageWords
-inspect-word P R p r i h =
-    outcome-at inspect-writing P R p r i h
-    ∙ getD-walked 44 (drop 24 (bits P)) (bits R) i h
-    ∙ ap (λ (w : List Bool). walked w (drop (takenAll (pageWords P i) (bits R)) (bits R))) (getD-pageWords P 44 i h)
+inspect-word {σ} f P R p r i h =
+    outcome-at (inspect-writing f) P R p r i h
+    ∙ getD-walked (σ .words) (drop 24 (bits P)) (bits R) i h
+    ∙ ap (λ (w : List Bool). walked w (drop (takenAll (pageWords P i) (bits R)) (bits R))) (getD-pageWords P (σ .words) i h)
 
 pub outcome-by-words : OutcomeByWords
 outcome-by-words = record {
@@ -95,7 +95,7 @@ outcome-by-words = record {
       let q = fill-twice (sound-known s k) .ready (fillPageLeaves P) .1 (P, p, refl) in (q .in-state, q .byte1-zero, q .byte2-zero);
   filled-word = λ s k. filled-word (sound-known s k);
   outcome-word = λ s k. outcome-word (sound-known s k);
-  inspect-word = inspect-word;
+  inspect-word = λ s k. inspect-word (sound-known s k);
 }
 
 -- ---- no cell is cleared
@@ -128,10 +128,10 @@ fill-keeps P h =
 
 -- by either code
 write-keeps : (c : Code) (P R : List ℕ)
-    → ((F R : List ℕ) → ReadyOf c (c .shape P) F → Bytes R → 8 * length R ≤ roomFor c (c .shape P) F R → Keeps F (writtenOf c (c .shape P) F R))
+    → ((F R : List ℕ) → ReadyOf c (shapeOf P) F → Bytes R → 8 * length R ≤ roomFor c (shapeOf P) F R → Keeps F (writtenOf c (shapeOf P) F R))
     → Bytes P → Bytes R → Keeps P (writeLeaves c P R)
 write-keeps c P R w h k =
-    keeps-after (writeAnswer c P R) P (writtenOf c (c .shape P) P R) (λ v e.
+    keeps-after (writeAnswer c P R) P (writtenOf c (shapeOf P) P R) (λ v e.
     let a = writer-of c .accepted P R v h .0 e in
     w P R (a .0) k (a .1))
 
@@ -141,6 +141,8 @@ no-cell-cleared = record {
   fill-page = fill-keeps;
   write-second = λ P R.
       let f = sound-of P in
-      write-keeps fillCode P R (written-keeps f fill-laws (told-fill f) (own-shape f) (ahead-fill f));
-  write-inspect = λ P R. write-keeps inspectCode P R (written-keeps sound256 inspect-laws told-inspect holds-inspect ahead-inspect);
+      write-keeps fillCode P R (written-keeps f fill-laws (told-fill f) (ahead-fill f));
+  write-inspect = λ P R.
+      let f = sound-of P in
+      write-keeps inspectCode P R (written-keeps f inspect-laws (told-inspect f) (ahead-inspect f));
 }

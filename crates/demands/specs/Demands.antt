@@ -1,4 +1,4 @@
--- The customer's three demands, clause by clause, in the terms of document 01 and of document 02, Changes 2, 3, 6, 7 and 8.
+-- The customer's three demands, clause by clause, in the terms of document 01 and of document 02, Changes 2, 3 and 6 to 9.
 -- proofs/Demands.antt proves each.
 -- The contracts in src/ of word, page, filled, second, inspect and wom tie the running code to `decodeAnswer`, `writeFirstAnswer`,
 -- `writeFirstLeaves` and the others of specs/Answer.antt in word, page, filled, second and inspect: what each operation answers, and what each
@@ -9,8 +9,7 @@
 -- `writeSecondAnswer` is `writeAnswer fillCode`, `readInspectLeaves` is `readLeaves inspectCode`, and so on.
 --
 -- There are two shapes of page, `page256` and `page512` (rows/specs/Page.antt). Each answer goes by the page's own, `shapeOf P`, which its length
--- names; the Inspect code has `page256` alone. Demand 1 speaks of every page by its own shape. What demands 2 and 3 say stands once, over a
--- shape s, and is asked of both.
+-- names. Demand 1 speaks of every page by its own shape. What demands 2 and 3 say stands once, over a shape s, and is asked of both.
 --
 -- How to read a clause:
 --   (w : ℕ) →              for every word w, held as a number: its cells are `cells 46 w`, cell 0 first
@@ -29,7 +28,7 @@ use mathlib.Core.Bool.{Bool}
 use mathlib.Core.List.{List, [], _∷_, _++_}
 use mathlib.Core.Logic.{_↔_, _⊎_}
 use mathlib.Core.Path.{_≡_}
-use Prim.Native.Nat.{ℕ, _+_, _*_, _≤_, _<_}
+use Prim.Native.Nat.{ℕ, _+_, _*_, _/_, _%_, _≤_, _<_}
 use lib.Dec.{T}
 use lib.ListN.{length, take, drop, getD}
 use Rattle.cells.specs.Cells.{number, cells, bit, pulses}
@@ -43,7 +42,7 @@ use Rattle.word.specs.Claims.{WordRefusals}
 use Rattle.rows.specs.declared.shape.Shape.{Shape}
 use Rattle.rows.specs.Page.{page256, page512, shapeOf, state, stateFirst, stateFilled, byte1, byte2, tail, recordLength, blankOf, FirstRoundOf, FilledOf, fillAll, capacityAll}
 use Rattle.rows.specs.Code.{Code, fillCode, longest, sure, roomFor, roomAhead, foundOf, judgedOf, spareOf, ReadyOf, FitsOf, AllJudgedOf, SecondRoundOf, outcomeOf}
-use Rattle.page.specs.Terms.{SizedOf, HeaderOf, RecordHeaderOf, RestSetOf, LowestBad, RefusalsOf}
+use Rattle.page.specs.Terms.{SizedOf, HeaderOf, RecordHeaderOf, TailSetOf, RestSetOf, LowestBad, RefusalsOf}
 use Rattle.page.specs.Answer.{writeFirstAnswer, writeFirstLeaves, readFirstAnswer, readFirstLeaves, writeAnswer, writeLeaves, readAnswer, readLeaves}
 use Rattle.filled.specs.Answer.{pulsesOf, fillPageAnswer, fillPageLeaves, pageCapacityAnswer}
 use Rattle.second.specs.Answer.{writeSecondAnswer}
@@ -102,16 +101,16 @@ tailOf P = tail (shapeOf P .words) P
 
 -- ---- what is demanded of a code
 
--- Demand 1 of a code's writer, on every page and every record. The page is held to the code's shape of it.
+-- Demand 1 of a code's writer, on every page and every record.
 pub record WriterOf (c : Code) : Type 0 where
   pub accepted : (P R : List ℕ) (v : ℕ) → Bytes P
-      → (writeAnswer c P R ≡ result v) ↔ (ReadyOf c (c .shape P) P × (8 * length R ≤ roomFor c (c .shape P) P R) × (v ≡ 0))
+      → (writeAnswer c P R ≡ result v) ↔ (ReadyOf c (shapeOf P) P × (8 * length R ≤ roomFor c (shapeOf P) P R) × (v ≡ 0))
   -- write second: "1, 5 for a state other than 03, 6, 7 for a word that is not well formed or has a data cell set, then 8", with the page's
   -- capacity, "if 8 times the record's length exceeds it"; write Inspect: "1, 5, 6, 7 as read first, then 8 when the last word's walk ends before
   -- the record does, with the number of record bits that all the words' walks take"
-  pub refused-1567 : (P R : List ℕ) → RefusalsOf (c .over) (c .takes) (c .shape P) P (writeAnswer c P R)
+  pub refused-1567 : (P R : List ℕ) → RefusalsOf (c .over) (c .takes) (shapeOf P) P (writeAnswer c P R)
   pub refused-8 : (P R : List ℕ) (k : ℕ) → Bytes P
-      → (writeAnswer c P R ≡ refusal 8 k) ↔ (ReadyOf c (c .shape P) P × (k ≡ roomFor c (c .shape P) P R) × (k < 8 * length R))
+      → (writeAnswer c P R ≡ refusal 8 k) ↔ (ReadyOf c (shapeOf P) P × (k ≡ roomFor c (shapeOf P) P R) × (k < 8 * length R))
   -- there is no other number, and "a refused call writes no byte of any buffer"
   pub refused-by : (P R : List ℕ) → RefusesBy (1 ∷ 5 ∷ 6 ∷ 7 ∷ 8 ∷ []) (writeAnswer c P R)
   pub refused-leaves : (P R : List ℕ) (n i : ℕ) → writeAnswer c P R ≡ refusal n i → writeLeaves c P R ≡ P
@@ -119,23 +118,23 @@ pub record WriterOf (c : Code) : Type 0 where
 -- Demand 1 of a code's reader, on every page and with every output.
 pub record ReaderOf (c : Code) : Type 0 where
   pub accepted : (P out : List ℕ) (n : ℕ) → Bytes P
-      → (readAnswer c P out ≡ result n) ↔ (SecondRoundOf c (c .shape P) P × (n ≡ recordLength P) × (n ≤ length out))
-  -- read second: "1, then 5 if the state is not 07, 6 if byte 1 exceeds 126 or byte 2 is not 0, 7 with the lowest index of a word not well
-  -- formed, 9 if 8 times byte 1 exceeds the number of data cells or a spare data cell is 1, 3 if the output is shorter than the record"; read
-  -- Inspect: "1, 5 for a state other than 09, 6 for byte 1 above 247 or byte 2 not 0, 7 with the lowest index of a word not legal so, 9 when the
-  -- walk ends before that length is reached, then 3"; "6 covers bytes 509 to 511"
-  pub refused-1 : (P out : List ℕ) (i : ℕ) → (readAnswer c P out ≡ refusal 1 i) ↔ (¬ SizedOf (c .shape P) P × (i ≡ 0))
-  pub refused-5 : (P out : List ℕ) (i : ℕ) → (readAnswer c P out ≡ refusal 5 i) ↔ (SizedOf (c .shape P) P × ¬ (state P ≡ c .into) × (i ≡ 0))
+      → (readAnswer c P out ≡ result n) ↔ (SecondRoundOf c (shapeOf P) P × (n ≡ recordLength P) × (n ≤ length out))
+  -- read second: "1, then 5 if the state is not 07", 6, "7 with the lowest index of a word not well formed, 9 if 8 times" the length "exceeds the
+  -- number of data cells or a spare data cell is 1, 3 if the output is shorter than the record"; read Inspect: "1, 5 for a state other than 09", 6,
+  -- "7 with the lowest index of a word not legal so, 9 when the walk ends before that length is reached, then 3". "For states 07 and 09 refusal 6 now
+  -- means a length above the limit of that code and page, which is 126 and 247, or 253 and 495, or on 512 bytes one of bytes 509 to 511 not 0"
+  pub refused-1 : (P out : List ℕ) (i : ℕ) → (readAnswer c P out ≡ refusal 1 i) ↔ (¬ SizedOf (shapeOf P) P × (i ≡ 0))
+  pub refused-5 : (P out : List ℕ) (i : ℕ) → (readAnswer c P out ≡ refusal 5 i) ↔ (SizedOf (shapeOf P) P × ¬ (state P ≡ c .into) × (i ≡ 0))
   pub refused-6 : (P out : List ℕ) (i : ℕ) → (readAnswer c P out ≡ refusal 6 i)
-      ↔ (SizedOf (c .shape P) P × (state P ≡ c .into) × ((longest c (c .shape P) < recordLength P) ⊎ RestSetOf (c .shape P) P) × (i ≡ 0))
+      ↔ (SizedOf (shapeOf P) P × (state P ≡ c .into) × ((longest c (shapeOf P) < recordLength P) ⊎ TailSetOf (shapeOf P) P) × (i ≡ 0))
   pub refused-7 : (P out : List ℕ) (i : ℕ) → (readAnswer c P out ≡ refusal 7 i)
-      ↔ (RecordHeaderOf c (c .shape P) P × LowestBad (c .passes) (judgedOf c (c .shape P) P) i)
-  pub judged-words : (P : List ℕ) → length (judgedOf c (c .shape P) P) ≡ c .shape P .words
+      ↔ (RecordHeaderOf c (shapeOf P) P × LowestBad (c .passes) (judgedOf c (shapeOf P) P) i)
+  pub judged-words : (P : List ℕ) → length (judgedOf c (shapeOf P) P) ≡ shapeOf P .words
   pub refused-9 : (P out : List ℕ) (i : ℕ) → (readAnswer c P out ≡ refusal 9 i)
-      ↔ (RecordHeaderOf c (c .shape P) P × AllJudgedOf c (c .shape P) P
-      × ((length (foundOf c (c .shape P) P) < 8 * recordLength P) ⊎ T (spareOf c (c .shape P) P)) × (i ≡ 0))
+      ↔ (RecordHeaderOf c (shapeOf P) P × AllJudgedOf c (shapeOf P) P
+      × ((length (foundOf c (shapeOf P) P) < 8 * recordLength P) ⊎ T (spareOf c (shapeOf P) P)) × (i ≡ 0))
   pub refused-3 : (P out : List ℕ) (i : ℕ) → Bytes P
-      → (readAnswer c P out ≡ refusal 3 i) ↔ (SecondRoundOf c (c .shape P) P × (length out < recordLength P) × (i ≡ 0))
+      → (readAnswer c P out ≡ refusal 3 i) ↔ (SecondRoundOf c (shapeOf P) P × (length out < recordLength P) × (i ≡ 0))
   pub refused-by : (P out : List ℕ) → RefusesBy (1 ∷ 5 ∷ 6 ∷ 7 ∷ 9 ∷ 3 ∷ []) (readAnswer c P out)
   pub refused-leaves : (P out : List ℕ) (n i : ℕ) → readAnswer c P out ≡ refusal n i → readLeaves c P out ≡ out
 
@@ -157,9 +156,11 @@ pub record WritingOf (c : Code) (ahead : List ℕ → List ℕ) (s : Shape) : Ty
   -- "writing R over P is accepted, leaves exactly the outcome that the rules define": writing over what the step ahead leaves
   pub accepted : (P R : List ℕ) → FirstRoundOf s P → FitsOf c s R P
       → (writeAnswer c (ahead P) R ≡ result 0) × (writeLeaves c (ahead P) R ≡ outcomeOf c s P R)
-  -- the outcome's header, words and last bytes, without a look at `putWords` (specs/Outcome.antt has each word)
+  -- the outcome's header, words and last bytes, without a look at `putWords` (specs/Outcome.antt has each word): "two bytes, byte 1 low and byte 2
+  -- high"
   pub header : (P R : List ℕ) → FirstRoundOf s P → FitsOf c s R P
-      → (state (outcomeOf c s P R) ≡ c .into) × (recordLength (outcomeOf c s P R) ≡ length R) × (byte2 (outcomeOf c s P R) ≡ 0)
+      → (state (outcomeOf c s P R) ≡ c .into) × (byte1 (outcomeOf c s P R) ≡ length R % 256) × (byte2 (outcomeOf c s P R) ≡ length R / 256)
+      × (recordLength (outcomeOf c s P R) ≡ length R)
   pub outcome-words : (P R : List ℕ) → FirstRoundOf s P → FitsOf c s R P
       → pageWords (outcomeOf c s P R) (s .words) ≡ c .put (c .prepare (pageWords P (s .words))) (bits R)
   pub outcome-tail : (P R : List ℕ) → FirstRoundOf s P → FitsOf c s R P → T (zeros (tail (s .words) (outcomeOf c s P R)))
@@ -182,7 +183,7 @@ pub record WritingOf (c : Code) (ahead : List ℕ → List ℕ) (s : Shape) : Ty
   -- Q are alike or not"
   pub differ : (P Q R S : List ℕ) → FirstRoundOf s P → FirstRoundOf s Q → FitsOf c s R P → FitsOf c s S Q → ¬ (R ≡ S)
       → (i : ℕ) × (i < s .size) × ¬ (getD (outcomeOf c s P R) i 0 ≡ getD (outcomeOf c s Q S) i 0)
-  -- a record that is short enough fits each first-round page, and one that fits is not too long for byte 1
+  -- a record that is short enough fits each first-round page, and one that fits is no longer than the limit of that code and page
   pub always-in : (P R : List ℕ) → FirstRoundOf s P → Bytes R → length R ≤ sure c s → FitsOf c s R P
   pub never-in : (P R : List ℕ) → FirstRoundOf s P → FitsOf c s R P → length R ≤ longest c s
 
@@ -219,15 +220,14 @@ pub record Demand1 : Type 0 where
   pub decode-word-10-11-12 : (w : ℕ) → WordRefusals w (decodeAnswer w)
   pub fill-word-10-11-12 : (w : ℕ) → WordRefusals w (fillAnswer w)
   pub word-capacity-10-11-12 : (w : ℕ) → WordRefusals w (capacityAnswer w)
-  -- A page's own shape: "Refusal 1 now means neither 256 nor 512 bytes (for Inspect still not 256)"; 44 words and a first record of 176 bytes,
-  -- or "88 words in bytes 3 to 508, a first record of 352 bytes, and bytes 509 to 511 at 0". A page has the size of its shape just when it has
-  -- one of the two
+  -- A page's own shape: "Refusal 1 now means neither 256 nor 512 bytes", and for Inspect "there becomes neither 256 nor 512"; 44 words and a first
+  -- record of 176 bytes, or "88 words in bytes 3 to 508, a first record of 352 bytes, and bytes 509 to 511 at 0". A page has the size of its shape
+  -- just when it has one of the two
   pub sized : (P : List ℕ) → Sized P ↔ ((length P ≡ 256) ⊎ (length P ≡ 512))
   pub neither : (P : List ℕ) → (¬ Sized P) ↔ (¬ (length P ≡ 256) × ¬ (length P ≡ 512))
   pub shape-256 : (P : List ℕ) → length P ≡ 256 → (shapeOf P .words ≡ 44) × (shapeOf P .first ≡ 176) × (tailOf P ≡ [])
   pub shape-512 : (P : List ℕ) → length P ≡ 512
       → (shapeOf P .words ≡ 88) × (shapeOf P .first ≡ 352) × (T (zeros (tailOf P)) ↔ ((getD P 509 0 ≡ 0) × (getD P 510 0 ≡ 0) × (getD P 511 0 ≡ 0)))
-  pub inspect-shape : (P : List ℕ) → inspectCode .shape P ≡ page256
   -- Write first: "1 if the page is not 256 bytes, 2 if the data is not 176 bytes, 4 if any page byte is not 0"; "2 compares with the page's own
   -- record size"
   pub write-first-1 : (P D : List ℕ) (i : ℕ) → (writeFirstAnswer P D ≡ refusal 1 i) ↔ (¬ Sized P × (i ≡ 0))
@@ -263,13 +263,14 @@ pub record Demand1 : Type 0 where
   pub write-first-refused : (P D : List ℕ) (n i : ℕ) → writeFirstAnswer P D ≡ refusal n i → writeFirstLeaves P D ≡ P
   pub read-first-refused : (P out : List ℕ) (n i : ℕ) → readFirstAnswer P out ≡ refusal n i → readFirstLeaves P out ≡ out
   pub fill-page-refused : (P : List ℕ) (n i : ℕ) → fillPageAnswer P ≡ refusal n i → fillPageLeaves P ≡ P
-  -- The two codes: write second and read second (Change 2 and document 01), write Inspect and read Inspect (Change 7)
+  -- The two codes: write second and read second (Change 2 and document 01), write Inspect and read Inspect (Changes 7 and 9)
   pub write-second : WriterOf fillCode
   pub read-second : ReaderOf fillCode
   pub write-inspect : WriterOf inspectCode
   pub read-inspect : ReaderOf inspectCode
-  -- the lengths with which 6 compares: "126", on the larger page "its byte 1 goes to 253", and "above 247"
-  pub longest-lengths : (longest fillCode page256 ≡ 126) × (longest fillCode page512 ≡ 253) × (longest inspectCode page256 ≡ 247)
+  -- the lengths with which 6 compares: "the limit of that code and page, which is 126 and 247, or 253 and 495"
+  pub longest-lengths : (longest fillCode page256 ≡ 126) × (longest inspectCode page256 ≡ 247)
+      × (longest fillCode page512 ≡ 253) × (longest inspectCode page512 ≡ 495)
 
 -- Demand 2. First-round pages are the Zeckendorf sums of the 32-bit words, 46 cells a word, as the two published papers define them,
 -- written and read back exactly. With an output long enough, a page is accepted as twice written exactly when filling some first-round
@@ -296,7 +297,7 @@ pub record Demand2 : Type 0 where
   pub first-pages : (s : Shape) → Known s → FirstPagesOf s
   -- "a page is accepted as twice written exactly when ...": "Demands 2 and 3 hold for each code with its own writing"
   pub fill-code : (s : Shape) → Known s → TwiceWrittenOf fillCode fillPageLeaves s
-  pub inspect : TwiceWrittenOf inspectCode (λ P. P) page256
+  pub inspect : (s : Shape) → Known s → TwiceWrittenOf inspectCode (λ P. P) s
 
 -- Demand 3's figures, which are the fill code's alone, on pages of a shape: the least and the greatest capacity, the record that is sure to fit,
 -- and the longest that fits some page.
@@ -329,13 +330,14 @@ pub record Demand3 : Type 0 where
   pub fill-accepted : (s : Shape) → Known s → (P : List ℕ) → FirstRoundOf s P
       → (fillPageAnswer P ≡ result (pulsesOf s P)) × FilledOf s (fillPageLeaves P)
   pub fill-code : (s : Shape) → Known s → WritingOf fillCode fillPageLeaves s
-  pub inspect : WritingOf inspectCode (λ P. P) page256
+  pub inspect : (s : Shape) → Known s → WritingOf inspectCode (λ P. P) s
   -- the outcomes of the two codes differ, whatever the records and whatever lies below
-  pub codes-differ : (P Q R S : List ℕ) → FirstRoundOf page256 P → FirstRoundOf page256 Q → FitsOf fillCode page256 R P → FitsOf inspectCode page256 S Q
-      → ¬ (getD (outcomeOf fillCode page256 P R) 0 0 ≡ getD (outcomeOf inspectCode page256 Q S) 0 0)
+  pub codes-differ : (s : Shape) → Known s → (P Q R S : List ℕ) → FirstRoundOf s P → FirstRoundOf s Q → FitsOf fillCode s R P → FitsOf inspectCode s S Q
+      → ¬ (getD (outcomeOf fillCode s P R) 0 0 ≡ getD (outcomeOf inspectCode s Q S) 0 0)
   -- "The figures of demand 3 remain those of 256 bytes", and beside them, of 512, "1,320 to 2,024 bits, both ends are met, a record of up to 165
   -- bytes fits each such page, and its byte 1 goes to 253"
   pub figures : FillFiguresOf page256 660 1012 82 126
   pub figures-512 : FillFiguresOf page512 1320 2024 165 253
   -- the lengths with which `always-in` compares (specs/Inspect.antt has the figures of the Inspect code)
-  pub sure-lengths : (sure fillCode page256 ≡ 82) × (sure fillCode page512 ≡ 165) × (sure inspectCode page256 ≡ 126)
+  pub sure-lengths : (sure fillCode page256 ≡ 82) × (sure inspectCode page256 ≡ 126)
+      × (sure fillCode page512 ≡ 165) × (sure inspectCode page512 ≡ 253)

@@ -10,11 +10,12 @@ use Rattle.cells.specs.Bytes.{bits}
 use Rattle.answer.specs.Answer.{result, refusal}
 use Rattle.window.specs.Words.{pageWords, putWords}
 use Rattle.word.specs.Earlier.{fillEarlier, capacityEarlier}
-use Rattle.rows.specs.Page.{page256, stateFilled, stateSecond, withHeader, sumOver, putAll, FirstRoundOf, FilledOf}
+use Rattle.rows.specs.Page.{page256, stateFilled, stateSecond, sumOver, putAll, FirstRoundOf, FilledOf}
 use Rattle.rows.specs.Code.{fillCode, FitsOf}
 use Rattle.filled.specs.Answer.{fillPageLeaves, pageCapacityAnswer}
 use Rattle.second.specs.Answer.{writeSecondAnswer, writeSecondLeaves, readSecondAnswer, readSecondLeaves}
 use Rattle.demands.specs.Demands.{dataCellsOf}
+use Rattle.demands.specs.Lengths.{withHeaderThen}
 
 unfoldable pub fillEarlierAll : List (List Bool) → List (List Bool)
 fillEarlierAll [] = []
@@ -28,9 +29,10 @@ roomEarlier P = sumOver capacityEarlier (pageWords P 44)
 unfoldable pub filledEarlier : List ℕ → List ℕ
 filledEarlier P = putWords (stateFilled ∷ drop 1 P) (fillEarlierAll (pageWords P 44))
 
--- the outcome of a record over a first-round page with the earlier fill: whether the two were one operation or, since Change 2, two
+-- the outcome of a record over a first-round page with the earlier fill, whether the two were one operation or, since Change 2, two; its length
+-- was byte 1
 unfoldable pub outcomeEarlier : List ℕ → List ℕ → List ℕ
-outcomeEarlier P R = putWords (withHeader stateSecond (length R) P) (putAll (fillEarlierAll (pageWords P 44)) (bits R))
+outcomeEarlier P R = putWords (withHeaderThen stateSecond (length R) P) (putAll (fillEarlierAll (pageWords P 44)) (bits R))
 
 -- Of every first-round page P of 256 bytes (there were no others), and every record R that fits it:
 pub record EarlierPages : Type 0 where

@@ -12,7 +12,7 @@ use Rattle.cells.specs.Bytes.{bits, Bytes}
 use Rattle.window.specs.Words.{wordAt, pageWords}
 use Rattle.word.specs.Fill.{fill, put}
 use Rattle.rows.specs.declared.shape.Shape.{Shape}
-use Rattle.rows.specs.Page.{page256, state, stateFilled, byte1, byte2, capacityAll, FirstRoundOf}
+use Rattle.rows.specs.Page.{state, stateFilled, byte1, byte2, capacityAll, FirstRoundOf}
 use Rattle.rows.specs.Code.{fillCode, FitsOf, outcomeOf}
 use Rattle.page.specs.Answer.{writeFirstLeaves}
 use Rattle.filled.specs.Answer.{fillPageLeaves}
@@ -35,8 +35,8 @@ pub record OutcomeByWords : Type 0 where
   pub outcome-word : (s : Shape) → Known s → (P R : List ℕ) → FirstRoundOf s P → FitsOf fillCode s R P → (i : ℕ) → i < s .words
       → wordAt (outcomeOf fillCode s P R) i ≡ put (fill (wordAt P i)) (drop (capacityAll (pageWords P i)) (bits R))
   -- "Each word is walked from cell 0": word i with the record's bits after those that the walks of the words before it take
-  pub inspect-word : (P R : List ℕ) → FirstRoundOf page256 P → FitsOf inspectCode page256 R P → (i : ℕ) → i < 44
-      → wordAt (outcomeOf inspectCode page256 P R) i ≡ walked (wordAt P i) (drop (takenAll (pageWords P i) (bits R)) (bits R))
+  pub inspect-word : (s : Shape) → Known s → (P R : List ℕ) → FirstRoundOf s P → FitsOf inspectCode s R P → (i : ℕ) → i < s .words
+      → wordAt (outcomeOf inspectCode s P R) i ≡ walked (wordAt P i) (drop (takenAll (pageWords P i) (bits R)) (bits R))
 
 -- a bit that is set in a byte of P is set in that byte of Q
 abbrev pub Keeps : List ℕ → List ℕ → Type 0
