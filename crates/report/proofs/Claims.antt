@@ -62,11 +62,11 @@ own-capacity P c b z =
     (λ (s : Shape). (pageCapacityAnswer P ≡ result c) ↔ ((FirstRoundOf s P × (c ≡ dataCellsOf s P)) ⊎ (FilledOf s P × (c ≡ filledCellsOf s P))))
     (own P z) (demand1 .page-capacity P c b)
 
-own-second : (P out : List ℕ) (n : ℕ) → Bytes P → Sized P
-    → (readSecondAnswer P out ≡ result n) ↔ (SecondRound fillCode P × (n ≡ recordLength P) × (n ≤ length out))
-own-second P out n b z =
-    subst (λ (s : Shape). (readSecondAnswer P out ≡ result n) ↔ (SecondRoundOf fillCode s P × (n ≡ recordLength P) × (n ≤ length out)))
-    (own P z) (demand1 .read-second .accepted P out n b)
+-- by either code
+own-read : (c : Code) → ReaderOf c → (P out : List ℕ) (n : ℕ) → Bytes P → Sized P
+    → (readAnswer c P out ≡ result n) ↔ (SecondRound c P × (n ≡ recordLength P) × (n ≤ length out))
+own-read c r P out n b z =
+    subst (λ (s : Shape). (readAnswer c P out ≡ result n) ↔ (SecondRoundOf c s P × (n ≡ recordLength P) × (n ≤ length out))) (own P z) (r .accepted P out n b)
 
 -- `first` is what page capacity accepts
 first-page : (P : List ℕ) (c : ℕ) → Bytes P → (kindOf P ≡ First c) ↔ (FirstRound P × (c ≡ dataCells P))
@@ -93,8 +93,8 @@ second-page P n b = (
   λ e.
       let w = kind-why P (Second n) e in
       ⊎-elim
-      (λ a. let r = own-second P (blankOf 126) n b (w .0) .0 a in (inl (r .0), r .1))
-      (λ a. let r = demand1 .read-inspect .accepted P (blankOf 247) n b .0 a in (inr (r .0), r .1))
+      (λ a. let r = own-read fillCode (demand1 .read-second) P (blankOf 126) n b (w .0) .0 a in (inl (r .0), r .1))
+      (λ a. let r = own-read inspectCode (demand1 .read-inspect) P (blankOf 247) n b (w .0) .0 a in (inr (r .0), r .1))
       (w .1),
   λ h. ⊎-elim (by-fill (h .1)) (by-walks (h .1)) (h .0),
 )
@@ -102,12 +102,12 @@ second-page P n b = (
     by-fill : n ≡ recordLength P → SecondRound fillCode P → kindOf P ≡ Second n
     by-fill e f =
         kind-07 P (f .sized) (f .in-state)
-        ∙ ap (kindBy Second) (own-second P (blankOf 126) n b (f .sized) .1 (f, e, omega (arith, f .length-most)))
+        ∙ ap (kindBy Second) (own-read fillCode (demand1 .read-second) P (blankOf 126) n b (f .sized) .1 (f, e, omega (arith, f .length-most)))
 
     by-walks : n ≡ recordLength P → SecondRound inspectCode P → kindOf P ≡ Second n
     by-walks e f =
         kind-09 P (f .sized) (f .in-state)
-        ∙ ap (kindBy Second) (demand1 .read-inspect .accepted P (blankOf 247) n b .1 (f, e, omega (arith, f .length-most)))
+        ∙ ap (kindBy Second) (own-read inspectCode (demand1 .read-inspect) P (blankOf 247) n b (f .sized) .1 (f, e, omega (arith, f .length-most)))
 
 -- either reader refuses by 1 only what is not sized
 why-1 : (P : List ℕ) → WhyBad P 1 → ¬ Sized P
@@ -116,7 +116,7 @@ why-1 P (not-blank e _ _ _) = absurd (omega arith)
 why-1 P (unknown e _ _ _ _ _ _) = absurd (omega arith)
 why-1 P (open-bad i z _ a) = absurd (demand1 .page-capacity-1 P i .0 a .0 (own-sized P z))
 why-1 P (second-bad i z _ a) = absurd (demand1 .read-second .refused-1 P (blankOf 126) i .0 a .0 (own-sized P z))
-why-1 P (inspect-bad i z _ a) = absurd (demand1 .read-inspect .refused-1 P (blankOf 247) i .0 a .0 z)
+why-1 P (inspect-bad i z _ a) = absurd (demand1 .read-inspect .refused-1 P (blankOf 247) i .0 a .0 (own-sized P z))
 
 -- neither refuses by 4
 why-4 : (P : List ℕ) → WhyBad P 4 → Sized P × (state P ≡ 0) × ¬ (P ≡ blank)
@@ -196,16 +196,16 @@ inspect-refused : (P out : List ℕ) (n : ℕ) → Sized P → state P ≡ 9 →
 unfolding blankOf
 inspect-refused P out n z s l =
     let r = refused-bad Second (readInspectAnswer P out) n (λ m e. let z : _≡_ {A = ℕ} 0 1 = cc in omega arith) in
-    let k = kind-09 P z s ∙ ap (kindBy Second) (reader-fits inspectCode P (blankOf 247) refl (omega arith) ∙ sym (reader-fits inspectCode P out refl l)) in
+    let k = kind-09 P z s ∙ ap (kindBy Second) (reader-fits inspectCode P (blankOf 247) (own P z) (omega arith) ∙ sym (reader-fits inspectCode P out (own P z) l)) in
     (λ e. r .0 (sym k ∙ e), λ h. k ∙ r .1 h)
 
 -- by 1 and by 5 neither refuses a page that is sized and in its state
-reader-6-7-or-9 : (c : Code) → ReaderOf c → (P out : List ℕ) (n i : ℕ) → Sized P → c .shape P ≡ page256 → state P ≡ c .into
+reader-6-7-or-9 : (c : Code) → ReaderOf c → (P out : List ℕ) (n i : ℕ) → Sized P → state P ≡ c .into
     → longest c page256 ≤ length out → readAnswer c P out ≡ refusal n i → T (among n (6 ∷ 7 ∷ 9 ∷ []))
-reader-6-7-or-9 c r P out n i z e s l a =
+reader-6-7-or-9 c r P out n i z s l a =
     let by : (k : ℕ) → n ≡ k → readAnswer c P out ≡ refusal k i = λ k q. a ∙ ap (λ (j : ℕ). refusal j i) q in
     among-others n 5 _ (λ q. r .refused-5 P out i .0 (by 5 q) .1 s)
-    (among-others n 1 _ (λ q. r .refused-1 P out i .0 (by 1 q) .0 (rw e z)) (reader-among c P out e l n i a))
+    (among-others n 1 _ (λ q. r .refused-1 P out i .0 (by 1 q) .0 (own-sized P z)) (reader-among c P out (own P z) l n i a))
 
 second-6-7-or-9 : (P : List ℕ) (n : ℕ) → Sized P → (state P ≡ 7) ⊎ (state P ≡ 9) → kindOf P ≡ Bad n → T (among n (6 ∷ 7 ∷ 9 ∷ []))
 unfolding blankOf
@@ -213,10 +213,10 @@ second-6-7-or-9 P n z s e =
     ⊎-elim
     (λ t.
     let h = second-refused P (blankOf 126) n z t (omega arith) .0 e in
-    reader-6-7-or-9 fillCode (demand1 .read-second) P (blankOf 126) n (h .0) z (own P z) t (omega arith) (h .1))
+    reader-6-7-or-9 fillCode (demand1 .read-second) P (blankOf 126) n (h .0) z t (omega arith) (h .1))
     (λ t.
     let h = inspect-refused P (blankOf 247) n z t (omega arith) .0 e in
-    reader-6-7-or-9 inspectCode (demand1 .read-inspect) P (blankOf 247) n (h .0) z refl t (omega arith) (h .1))
+    reader-6-7-or-9 inspectCode (demand1 .read-inspect) P (blankOf 247) n (h .0) z t (omega arith) (h .1))
     s
 
 pub kinds-exact : KindsExact

@@ -147,7 +147,7 @@ module _ (P : List ℕ) where
 -- ---- the numbers of `bad`
 
 -- a reader that holds a page to 256 bytes
-module _ (c : Code) (P out : List ℕ) (held : c .shape P ≡ page256) (h : longest c page256 ≤ length out) where
+module _ (c : Code) (P out : List ℕ) (held : shapeOf P ≡ page256) (h : longest c page256 ≤ length out) where
   reads-as : readAnswer c P out ≡ answer (readChecks c page256 P out) (recordLength P)
   reads-as = ap (λ (s : Shape). answer (readChecks c s P out) (recordLength P)) held
 
@@ -184,7 +184,7 @@ second-short P n e =
     let w = kind-why P (Second n) e in
     ⊎-elim
     (λ a. omega (arith, reader-short fillCode P (blankOf 126) (own P (w .0)) (omega arith) n a))
-    (λ a. reader-short inspectCode P (blankOf 247) refl (omega arith) n a)
+    (λ a. reader-short inspectCode P (blankOf 247) (own P (w .0)) (omega arith) n a)
     (w .1)
 
 -- document 01's
@@ -204,4 +204,4 @@ bad-among P n (second-bad i z s e) =
     (reader-among fillCode P (blankOf 126) (own P z) (omega arith) n i e)
 bad-among P n (inspect-bad i z s e) =
     within n (1 ∷ 5 ∷ 6 ∷ 7 ∷ 9 ∷ []) badNumbers (tt, (tt, (tt, (tt, (tt, tt)))))
-    (reader-among inspectCode P (blankOf 247) refl (omega arith) n i e)
+    (reader-among inspectCode P (blankOf 247) (own P z) (omega arith) n i e)
