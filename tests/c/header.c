@@ -79,6 +79,12 @@ static const struct {
     CONSTANT(WOM_SECOND_BYTES_SURE_OF(256), 82),
     CONSTANT(WOM_SECOND_BYTES_SURE_OF(512), 165),
     CONSTANT(WOM_SECOND_BYTES_SURE_OF(257), 0),
+    CONSTANT(WOM_INSPECT_BYTES_MAX_OF(256), 247),
+    CONSTANT(sizeof(uint8_t[WOM_INSPECT_BYTES_MAX_OF(512)]), 495),
+    CONSTANT(WOM_INSPECT_BYTES_MAX_OF(255), 0),
+    CONSTANT(WOM_INSPECT_BYTES_SURE_OF(256), 126),
+    CONSTANT(WOM_INSPECT_BYTES_SURE_OF(256 + 256), 253),
+    CONSTANT(WOM_INSPECT_BYTES_SURE_OF(513), 0),
     CONSTANT(WOM_STATE_BLANK, 0),
     CONSTANT(WOM_STATE_FIRST, 1),
     CONSTANT(WOM_STATE_FILLED, 3),
@@ -89,7 +95,7 @@ static const struct {
     CONSTANT(WOM_FILE_BYTES(1), 271),
     CONSTANT(WOM_FILE_BYTES(1 + 1), 530),
     CONSTANT(sizeof(uint8_t[WOM_FILE_BYTES(WOM_FILE_PAGES_MAX)]), 16588),
-    CONSTANT(WOM_VERSION, 60000),
+    CONSTANT(WOM_VERSION, 70000),
 };
 
 static void check_constants(void)
@@ -139,7 +145,7 @@ static void check_texts(void)
         check_text(wom_refusal_name(texts[i].number), texts[i].expected);
     }
     in_case("WOM_VERSION_STRING", WOM_VERSION);
-    check_text(WOM_VERSION_STRING, "6.0.0");
+    check_text(WOM_VERSION_STRING, "7.0.0");
 }
 
 static const struct {
@@ -154,6 +160,7 @@ static const struct {
     {UINT64_C(0x070000000000002b), 7, 43},
     {UINT64_C(0x08000000000003f4), 8, 1012},
     {UINT64_C(0x08000000000007bc), 8, 1980},
+    {UINT64_C(0x0800000000000f78), 8, 3960},
     {UINT64_C(0x0d00000000000000), 13, 0},
     {UINT64_C(0x8000000000000000), 128, 0},
     {UINT64_MAX, 255, UINT64_C(0x00ffffffffffffff)},
@@ -472,8 +479,9 @@ static const struct page least_inspect_ones = {
     {0x09, 126, 0, 0xff, 0xff}, {TIMES_23(0xff)}, {0xff, 0x49},
 };
 
-/* Over pages of 512 bytes, each record taking every data cell: 253 bytes of ones
- * over 352 zero bytes, 165 over 88 times 3889371024, 242 over 88 times 3. */
+/* Over pages of 512 bytes, each record taking every data cell: 253 bytes of
+ * ones over 352 zero bytes, 165 over 88 times 3889371024, 242 over 88 times
+ * 3. */
 static const struct page zeros_ones_253 = {
     {0x07, 253, 0, 0xff, 0xff}, {TIMES_23(0xff)}, {0xff, 0xff},
 };
@@ -482,6 +490,21 @@ static const struct page least_ones_165 = {
 };
 static const struct page threes_ones_242 = {
     {0x07, 242, 0, 0xff, 0xff}, {THREES_WORDS_ONES}, {0xff, 0xf6},
+};
+
+/* By the Inspect code, over 352 zero bytes: 255 zero bytes, the most that byte
+ * 1 alone can tell, 256, 257 and 495 of them; over 88 times 3889371024: 330
+ * zero bytes, which leave each word as it is; over any page: 253 bytes of
+ * ones. */
+static const struct page zeros_inspect_255 = {{0x09, 0xff, 0x00}, {0}, {0}};
+static const struct page zeros_inspect_256 = {{0x09, 0x00, 0x01}, {0}, {0}};
+static const struct page zeros_inspect_257 = {{0x09, 0x01, 0x01}, {0}, {0}};
+static const struct page zeros_inspect_495 = {{0x09, 0xef, 0x01}, {0}, {0}};
+static const struct page least_inspect_330 = {
+    {0x09, 0x4a, 0x01, 0x92, 0x49}, {LEAST_WORDS}, {0x92, 0x49},
+};
+static const struct page inspect_ones_253 = {
+    {0x09, 0xfd, 0x00, 0xff, 0xff}, {TIMES_23(0xff)}, {0xff, 0xff},
 };
 
 /* Sixteen bytes, which repeat themselves. */
@@ -742,6 +765,35 @@ static const struct accepted accepted_512[] = {
     {READ_SECOND, &mixed_zero, nines, 2, 1, &mixed_zero, zeros, 1},
     {READ_SECOND, &threes_ones_242, nines, 600, 242, &threes_ones_242, ones,
      242},
+
+    {WRITE_INSPECT, &zeros_first, zeros, 0, 0, &zeros_inspect_none, zeros, 0},
+    {WRITE_INSPECT, &zeros_first, byte, 1, 0, &zeros_inspect_byte, zeros, 0},
+    {WRITE_INSPECT, &zeros_first, zeros, 255, 0, &zeros_inspect_255, zeros, 0},
+    {WRITE_INSPECT, &zeros_first, zeros, 256, 0, &zeros_inspect_256, zeros, 0},
+    {WRITE_INSPECT, &zeros_first, zeros, 257, 0, &zeros_inspect_257, zeros, 0},
+    {WRITE_INSPECT, &zeros_first, zeros, 495, 0, &zeros_inspect_495, zeros, 0},
+    {WRITE_INSPECT, &least_first, zeros, 330, 0, &least_inspect_330, zeros, 0},
+    {WRITE_INSPECT, &zeros_first, ones, 253, 0, &inspect_ones_253, zeros, 0},
+    {WRITE_INSPECT, &least_first, ones, 253, 0, &inspect_ones_253, zeros, 0},
+    {WRITE_INSPECT, &mixed_first, ones, 253, 0, &inspect_ones_253, zeros, 0},
+    {WRITE_INSPECT, &threes_first, ones, 253, 0, &inspect_ones_253, zeros, 0},
+
+    {READ_INSPECT, &zeros_inspect_none, nines, 0, 0, &zeros_inspect_none, zeros,
+     0},
+    {READ_INSPECT, &zeros_inspect_byte, nines, 2, 1, &zeros_inspect_byte, byte,
+     1},
+    {READ_INSPECT, &zeros_inspect_255, nines, 255, 255, &zeros_inspect_255,
+     zeros, 255},
+    {READ_INSPECT, &zeros_inspect_256, nines, 256, 256, &zeros_inspect_256,
+     zeros, 256},
+    {READ_INSPECT, &zeros_inspect_257, nines, 600, 257, &zeros_inspect_257,
+     zeros, 257},
+    {READ_INSPECT, &zeros_inspect_495, nines, 495, 495, &zeros_inspect_495,
+     zeros, 495},
+    {READ_INSPECT, &least_inspect_330, nines, 331, 330, &least_inspect_330,
+     zeros, 330},
+    {READ_INSPECT, &inspect_ones_253, nines, 253, 253, &inspect_ones_253, ones,
+     253},
 };
 
 static void check_accepted_call(const struct accepted *row, size_t size)
@@ -892,6 +944,7 @@ static const struct refused {
     {READ_SECOND, &zeros_ones, 256, 0, 0x09, 126, 5, 0},
     {READ_SECOND, &zeros_ones, 256, 1, 127, 127, 6, 0},
     {READ_SECOND, &zeros_ones, 256, 2, 0x01, 126, 6, 0},
+    {READ_SECOND, &zeros_none, 256, 2, 0x01, 256, 6, 0}, /* 256 */
     {READ_SECOND, &zeros_none, 256, 3, 0x00, 126, 7, 0}, /* room at cell 0 */
     {READ_SECOND, &zeros_none, 256, 255, 0xa8, 126, 7, 43}, /* at cell 44 */
     {READ_SECOND, &threes_ones, 256, 255, 0xf0, 126, 7, 43}, /* at cell 42 */
@@ -904,6 +957,7 @@ static const struct refused {
     {WRITE_INSPECT, &zeros_first, 0, 0, 0x01, 0, 1, 0},
     {WRITE_INSPECT, &zeros_first, 255, 0, 0x01, 1, 1, 0},
     {WRITE_INSPECT, &zeros_first, 257, 0, 0x01, 248, 1, 0},
+    {WRITE_INSPECT, &zeros_first, 512, 0, 0x01, 1, 6, 0}, /* 509 to 511 */
     {WRITE_INSPECT, &zeros_ones, 255, 0, 0x07, 1, 1, 0},
     {WRITE_INSPECT, &zeros_first, 256, 0, 0x00, 1, 5, 0},
     {WRITE_INSPECT, &zeros_first, 256, 0, 0x02, 1, 5, 0},
@@ -936,7 +990,8 @@ static const struct refused {
     {READ_INSPECT, &zeros_none, 256, 1, 248, 248, 5, 0},
     {READ_INSPECT, &zeros_inspect_zeros, 256, 1, 248, 248, 6, 0},
     {READ_INSPECT, &zeros_inspect_ones, 256, 1, 255, 255, 6, 0},
-    {READ_INSPECT, &zeros_inspect_none, 256, 2, 0x01, 126, 6, 0},
+    {READ_INSPECT, &zeros_inspect_none, 256, 2, 0x01, 256, 6, 0}, /* 256 */
+    {READ_INSPECT, &zeros_inspect_none, 512, 0, 0x09, 126, 6, 0},
     {READ_INSPECT, &zeros_inspect_ones, 256, 2, 0x80, 0, 6, 0},
     {READ_INSPECT, &zeros_inspect_none, 256, 3, 0xaa, 126, 7, 0}, /* the sum */
     {READ_INSPECT, &zeros_inspect_zeros, 256, 3, 0xaa, 0, 7, 0}, /* then 9, 3 */
@@ -1043,10 +1098,44 @@ static const struct refused refused_512[] = {
     {READ_SECOND, &zeros_ones_253, 512, 0, 0x07, 252, 3, 0},
     {READ_SECOND, &zeros_ones_253, 512, 0, 0x07, 126, 3, 0},
 
-    {WRITE_INSPECT, &zeros_first, 512, 0, 0x01, 1, 1, 0},
-    {WRITE_INSPECT, &zeros_first, 512, 0, 0x03, 0, 1, 0},
-    {READ_INSPECT, &zeros_inspect_none, 512, 0, 0x09, 253, 1, 0},
-    {READ_INSPECT, &zeros_inspect_ones, 512, 1, 126, 126, 1, 0},
+    {WRITE_INSPECT, &zeros_first, 511, 0, 0x01, 1, 1, 0},
+    {WRITE_INSPECT, &zeros_first, 513, 0, 0x01, 496, 1, 0},
+    {WRITE_INSPECT, &zeros_first, 512, 0, 0x03, 0, 5, 0},
+    {WRITE_INSPECT, &zeros_inspect_495, 512, 511, 0x01, 1, 5, 0},
+    {WRITE_INSPECT, &zeros_first, 512, 1, 0x01, 1, 6, 0},
+    {WRITE_INSPECT, &zeros_first, 512, 2, 0x01, 496, 6, 0},
+    {WRITE_INSPECT, &zeros_first, 512, 509, 0x80, 1, 6, 0},
+    {WRITE_INSPECT, &zeros_first, 512, 510, 0x01, 496, 6, 0},
+    {WRITE_INSPECT, &zeros_first, 512, 511, 0x01, 0, 6, 0},
+    {WRITE_INSPECT, &zeros_filled, 512, 0, 0x01, 1, 7, 0}, /* every even cell */
+    {WRITE_INSPECT, &zeros_first, 512, 255, 0x03, 0, 7, 43},
+    {WRITE_INSPECT, &zeros_first, 512, 256, 0xc0, 1, 7, 44},
+    {WRITE_INSPECT, &zeros_first, 512, 508, 0x03, 4096, 7, 87},
+
+    {READ_INSPECT, &zeros_inspect_none, 511, 0, 0x09, 495, 1, 0},
+    {READ_INSPECT, &zeros_inspect_495, 513, 0, 0x09, 495, 1, 0},
+    {READ_INSPECT, &zeros_inspect_495, 512, 0, 0x07, 495, 5, 0},
+    {READ_INSPECT, &zeros_ones_253, 512, 511, 0x01, 495, 5, 0},
+    {READ_INSPECT, &zeros_inspect_495, 512, 1, 0xf0, 496, 6, 0}, /* 496 */
+    {READ_INSPECT, &inspect_ones_253, 512, 2, 0x01, 509, 6, 0},  /* 509 */
+    {READ_INSPECT, &zeros_inspect_none, 512, 2, 0x02, 512, 6, 0}, /* 512 */
+    {READ_INSPECT, &zeros_inspect_none, 512, 2, 0x80, 0, 6, 0},
+    {READ_INSPECT, &zeros_inspect_none, 512, 509, 0x01, 495, 6, 0},
+    {READ_INSPECT, &zeros_inspect_495, 512, 510, 0x01, 495, 6, 0},
+    {READ_INSPECT, &inspect_ones_253, 512, 511, 0x80, 0, 6, 0},
+    {READ_INSPECT, &inspect_ones_253, 512, 1, 0, 495, 7, 0}, /* not read */
+    {READ_INSPECT, &inspect_ones_253, 512, 1, 126, 495, 7, 43},
+    {READ_INSPECT, &inspect_ones_253, 512, 1, 127, 495, 7, 44},
+    {READ_INSPECT, &inspect_ones_253, 512, 1, 252, 495, 7, 87},
+    {READ_INSPECT, &zeros_inspect_495, 512, 256, 0xaa, 0, 7, 44}, /* the sum */
+    {READ_INSPECT, &zeros_inspect_none, 512, 508, 0x03, 495, 7, 87},
+    {READ_INSPECT, &inspect_ones_253, 512, 1, 254, 495, 9, 0}, /* 2024 bits */
+    {READ_INSPECT, &least_inspect_330, 512, 1, 0x4b, 495, 9, 0}, /* 2640 */
+    {READ_INSPECT, &least_inspect_330, 512, 1, 0xef, 0, 9, 0},
+    {READ_INSPECT, &zeros_inspect_256, 512, 0, 0x09, 0, 3, 0},
+    {READ_INSPECT, &zeros_inspect_257, 512, 0, 0x09, 1, 3, 0},
+    {READ_INSPECT, &zeros_inspect_257, 512, 0, 0x09, 256, 3, 0},
+    {READ_INSPECT, &zeros_inspect_495, 512, 0, 0x09, 494, 3, 0},
 };
 
 static void check_refused_call(const struct refused *row, size_t size)
@@ -1100,30 +1189,40 @@ static void check_refused(void)
 
 /* The cells of each word in the first round; the record's bits that the walk of
  * each word takes; the cells of each word afterwards, and those of the last
- * word. The record that fits is as many whole bytes as 44 times the bits are:
- * where half a byte is left over, the last word takes four bits fewer, and its
- * later cells are as they were. */
+ * word of 44; the longest record that fits, in bytes, and the bits that the
+ * walks take of a longer one, on 256 bytes and on 512. Where the walks of 44
+ * words take half a byte more than the record, the last word takes four bits
+ * fewer, and its later cells are as they were; those of 88 take whole bytes. */
 static const struct walk {
     const char *first;
     const char *bits;
     const char *cells;
     const char *last;
+    struct fit {
+        size_t bytes;
+        uint64_t bits;
+    } fit, fit_512;
 } walks[] = {
     /* the most bits and the fewest */
-    {X46("0"), X45("0"), X46("0"), X46("0")},
-    {X46("0"), X23("1"), X46("1"), X38("1") "00000000"},
+    {X46("0"), X45("0"), X46("0"), X46("0"), {247, 1980}, {495, 3960}},
+    {X46("0"), X23("1"), X46("1"), X38("1") "00000000", {126, 1012},
+     {253, 2024}},
     /* cell 45 remains alone: 0, set, set after a pair 10 */
-    {X46("0"), "0" X22("1"), "0" X44("1") "0", "0" X36("1") "000000000"},
-    {X45("0") "1", "0" X22("1"), "0" X44("1") "1", "0" X36("1") "000000001"},
-    {X23("01"), X23("0"), X23("01"), X23("01")},
-    {X15("100") "1", X30("0"), X15("100") "1", X15("100") "1"},
+    {X46("0"), "0" X22("1"), "0" X44("1") "0", "0" X36("1") "000000000",
+     {126, 1012}, {253, 2024}},
+    {X45("0") "1", "0" X22("1"), "0" X44("1") "1", "0" X36("1") "000000001",
+     {126, 1012}, {253, 2024}},
+    {X23("01"), X23("0"), X23("01"), X23("01"), {126, 1012}, {253, 2024}},
+    {X15("100") "1", X30("0"), X15("100") "1", X15("100") "1", {165, 1320},
+     {330, 2640}},
     /* ones over 01 and over 10 */
     {X23("01"), "10101" X18("0"), "11" "0" "11" "10" "11" X18("10") "1",
-     "11" "0" "11" "10" "11" X18("10") "1"},
+     "11" "0" "11" "10" "11" X18("10") "1", {126, 1012}, {253, 2024}},
     {X37("0") "101000001", X37("0") "01" "0001", X37("0") "10" "11" "00011",
-     X37("0") "10" "11" "00001"},
+     X37("0") "10" "11" "00001", {236, 1892}, {473, 3784}},
     {X33("0") "0100000010010", X33("0") "1" "000000" "1" "00",
-     X33("0") "11" "000000" "11" "010", X33("0") "11" "00000010010"},
+     X33("0") "11" "000000" "11" "010", X33("0") "11" "00000010010",
+     {236, 1892}, {473, 3784}},
 };
 
 /* '0' or '1', over a 0. */
@@ -1132,17 +1231,33 @@ static void put_bit(uint8_t *bytes, size_t number, char bit)
     bytes[number / 8] |= (uint8_t)((bit == '1') << (7 - number % 8));
 }
 
-static void lay_cells(uint8_t bytes[ROOM], uint8_t state, size_t length,
-                      const char *cells, const char *last)
+static void lay_cells(uint8_t bytes[ROOM], size_t size, uint8_t state,
+                      size_t length, const char *cells, const char *last)
 {
-    size_t i;
+    size_t words = size == 512 ? 88 : 44, i;
 
     memset(bytes, 0x55, ROOM);
-    memset(bytes, 0, 256);
+    memset(bytes, 0, size);
     bytes[0] = state;
-    bytes[1] = (uint8_t)length;
-    for (i = 0; i < 44 * 46; i++)
-        put_bit(bytes + 3, i, i < 43 * 46 ? cells[i % 46] : last[i % 46]);
+    bytes[1] = (uint8_t)(length % 256);
+    bytes[2] = (uint8_t)(length / 256);
+    for (i = 0; i < words * 46; i++)
+        put_bit(bytes + 3, i,
+                i / 46 < words - 1 ? cells[i % 46] : last[i % 46]);
+}
+
+/* Before the record, and with the longest that fits. */
+static void lay_before(uint8_t bytes[ROOM], const struct walk *row, size_t size)
+{
+    lay_cells(bytes, size, 0x01, 0, row->first, row->first);
+}
+
+static void lay_after(uint8_t bytes[ROOM], const struct walk *row, size_t size)
+{
+    if (size == 512)
+        lay_cells(bytes, 512, 0x09, row->fit_512.bytes, row->cells, row->cells);
+    else
+        lay_cells(bytes, 256, 0x09, row->fit.bytes, row->cells, row->last);
 }
 
 /* The same bits over and over. */
@@ -1155,42 +1270,51 @@ static void lay_bits(uint8_t *bytes, size_t length, const char *bits)
         put_bit(bytes, i, bits[i % strlen(bits)]);
 }
 
-static size_t fits(const struct walk *row)
-{
-    return 44 * strlen(row->bits) / 8;
-}
-
 /* A record of that length, which is refused where it does not fit. */
-static void check_written(const struct walk *row, size_t length)
+static void check_written(const struct walk *row, size_t size,
+                          const struct fit *fit, size_t length)
 {
     struct trial trial = {
-        .entry = WRITE_INSPECT, .page_length = 256, .length = length};
+        .entry = WRITE_INSPECT, .page_length = size, .length = length};
 
-    lay_cells(trial.page, 0x01, 0, row->first, row->first);
-    lay_cells(trial.page_left, 0x01, 0, row->first, row->first);
+    lay_before(trial.page, row, size);
     lay_bits(trial.other, ROOM, row->bits);
     lay_bits(trial.other_left, ROOM, row->bits);
-    if (length > fits(row))
-        trial.answer = REFUSED(8, 44 * strlen(row->bits));
-    else
-        lay_cells(trial.page_left, 0x09, length, row->cells, row->last);
+    if (length > fit->bytes) {
+        trial.answer = REFUSED(8, fit->bits);
+        lay_before(trial.page_left, row, size);
+    } else {
+        lay_after(trial.page_left, row, size);
+    }
     check_trial(&trial);
 }
 
 /* An output of that length, which is refused where it is too short. */
-static void check_read(const struct walk *row, size_t length)
+static void check_read(const struct walk *row, size_t size,
+                       const struct fit *fit, size_t length)
 {
     struct trial trial = {
-        .entry = READ_INSPECT, .page_length = 256, .length = length};
+        .entry = READ_INSPECT, .page_length = size, .length = length};
 
-    lay_cells(trial.page, 0x09, fits(row), row->cells, row->last);
-    lay_cells(trial.page_left, 0x09, fits(row), row->cells, row->last);
+    lay_after(trial.page, row, size);
+    lay_after(trial.page_left, row, size);
     lay_record(trial.other, nines, ROOM);
     lay_record(trial.other_left, nines, ROOM);
-    trial.answer = length < fits(row) ? REFUSED(3, 0) : fits(row);
-    if (length >= fits(row))
-        lay_bits(trial.other_left, fits(row), row->bits);
+    trial.answer = length < fit->bytes ? REFUSED(3, 0) : fit->bytes;
+    if (length >= fit->bytes)
+        lay_bits(trial.other_left, fit->bytes, row->bits);
     check_trial(&trial);
+}
+
+static void check_walk(const struct walk *row, size_t size,
+                       const struct fit *fit)
+{
+    check_written(row, size, fit, fit->bytes);
+    check_written(row, size, fit, fit->bytes + 1);
+    check_written(row, size, fit, 4096);
+    check_read(row, size, fit, fit->bytes);
+    check_read(row, size, fit, fit->bytes + 1);
+    check_read(row, size, fit, fit->bytes - 1);
 }
 
 static void check_walks(void)
@@ -1199,12 +1323,9 @@ static void check_walks(void)
 
     for (i = 0; i < COUNT(walks); i++) {
         in_case("walk", i);
-        check_written(&walks[i], fits(&walks[i]));
-        check_written(&walks[i], fits(&walks[i]) + 1);
-        check_written(&walks[i], 4096);
-        check_read(&walks[i], fits(&walks[i]));
-        check_read(&walks[i], fits(&walks[i]) + 1);
-        check_read(&walks[i], fits(&walks[i]) - 1);
+        check_walk(&walks[i], 256, &walks[i].fit);
+        in_case("walk", 1000 + i);
+        check_walk(&walks[i], 512, &walks[i].fit_512);
     }
 }
 
