@@ -3,7 +3,7 @@
  * fits, and each on the page that takes it most instructions. A random record
  * of the Inspect code is one tenth ones. How it is started: passes.h. Before
  * each call the page is copied afresh, for `nothing` as well. The pages are of
- * 256 bytes, or, with the Inspect code left out, of PAGE_BYTES.
+ * 256 bytes, or of PAGE_BYTES.
  *
  * Kinds: answer    an answer
  *        page      the page afterwards
@@ -21,9 +21,9 @@
 #ifndef PAGE_BYTES
 #define PAGE_BYTES WOM_PAGE_BYTES
 #endif
-#define INSPECT (PAGE_BYTES == WOM_PAGE_BYTES)
 #define FIRST_BYTES WOM_FIRST_BYTES_OF(PAGE_BYTES)
 #define RECORD_BYTES WOM_SECOND_BYTES_MAX_OF(PAGE_BYTES)
+#define SPARSE_BYTES WOM_INSPECT_BYTES_MAX_OF(PAGE_BYTES)
 #define LAST_BYTE (PAGE_BYTES == 512 ? 508 : 255) /* of the words */
 
 #define COUNT 100
@@ -45,10 +45,10 @@ static const struct {
     {0, 10}, /* of all lengths the longest to copy and to test the spare cells */
 };
 
-#if INSPECT
-#define REFUSED 36
+#if PAGE_BYTES == 512
+#define REFUSED 45
 #else
-#define REFUSED 31
+#define REFUSED 36
 #endif
 #define PAGES (ACCEPTED + REFUSED)
 
@@ -60,15 +60,14 @@ typedef uint8_t page_bytes[PAGE_BYTES];
 static uint8_t data[PAGES][FIRST_BYTES];
 static uint8_t record[PAGES][RECORD_BYTES];
 static size_t record_length[PAGES];
-static uint8_t sparse[PAGES][WOM_INSPECT_BYTES_MAX + 1];
+static uint8_t sparse[PAGES][SPARSE_BYTES + 1];
 static size_t sparse_length[PAGES];
 static page_bytes blank[PAGES], first[PAGES], filled[PAGES], second[PAGES];
 static page_bytes inspect[PAGES];
 
 /* What a call works on. */
 static page_bytes page;
-static uint8_t out[WOM_INSPECT_BYTES_MAX > FIRST_BYTES ? WOM_INSPECT_BYTES_MAX
-                                                       : FIRST_BYTES];
+static uint8_t out[SPARSE_BYTES]; /* no record is longer */
 
 #define WITH_DATA(f)                                                  \
     static uint64_t call_##f(int i)                                   \
@@ -114,12 +113,10 @@ WITH_RECORD(wom_write_second, filled, record)
 WITH_RECORD(plain_write_second, filled, record)
 WITH_OUTPUT(wom_read_second, second)
 WITH_OUTPUT(plain_read_second, second)
-#if INSPECT
 WITH_RECORD(wom_write_inspect, first, sparse)
 WITH_RECORD(plain_write_inspect, first, sparse)
 WITH_OUTPUT(wom_read_inspect, inspect)
 WITH_OUTPUT(plain_read_inspect, inspect)
-#endif
 
 /* Page capacity stands here twice: of a first-round page, and under the name
  * filled_capacity of a filled page. */
@@ -139,12 +136,10 @@ static const struct operation operations[] = {
     {"plain_write_second", call_plain_write_second, MOST_ROOM},
     {"wom_read_second", call_wom_read_second, SHORT_RECORD},
     {"plain_read_second", call_plain_read_second, SHORT_RECORD},
-#if INSPECT
     {"wom_write_inspect", call_wom_write_inspect, MOST_ROOM},
     {"plain_write_inspect", call_plain_write_inspect, MOST_ROOM},
     {"wom_read_inspect", call_wom_read_inspect, MOST_ROOM},
     {"plain_read_inspect", call_plain_read_inspect, MOST_ROOM},
-#endif
 };
 
 #define OPERATIONS ((int)(sizeof operations / sizeof operations[0]))
@@ -163,7 +158,8 @@ enum {
 };
 
 /* Page 0, with one of its bytes put to another value, or its records made
- * longer, so that an operation refuses it by a number. */
+ * longer, so that an operation refuses it by a number. The Inspect code's
+ * record on it is longer than 255 bytes where the page has 512. */
 static const struct refused {
     int operation;
     int byte;
@@ -196,25 +192,27 @@ static const struct refused {
     {READ_SECOND, 3, 0x00, 0, 7},
     {READ_SECOND, 1, 0, 0, 9},   /* spare data cells are set */
     {READ_SECOND, 1, RECORD_BYTES, 0, 9}, /* too few data cells */
-#if INSPECT
     {WRITE_INSPECT, 0, 0x03, 0, 5},
     {WRITE_INSPECT, 1, 0x01, 0, 6},
     {WRITE_INSPECT, 2, 0x80, 0, 6},
     {WRITE_INSPECT, 128, 0xff, 0, 7},
     {WRITE_INSPECT, 0, 0x01, 1, 8},
     {READ_INSPECT, 0, 0x07, 0, 5},
-    {READ_INSPECT, 1, 248, 0, 6},
-    {READ_INSPECT, 2, 0x01, 0, 6},
+    {READ_INSPECT, 1, (SPARSE_BYTES + 1) % 256, 0, 6},
+    {READ_INSPECT, 2, PAGE_BYTES / 256, 0, 6},
     {READ_INSPECT, 3, 0xaa, 0, 7}, /* the sum */
     {READ_INSPECT, 1, 0, 0, 7},    /* a pair 11 that is not read */
-    {READ_INSPECT, 1, 247, 0, 9},
-#else
+    {READ_INSPECT, 1, SPARSE_BYTES % 256, 0, 9},
+#if PAGE_BYTES == 512
     {READ_FIRST, 509, 0x80, 0, 6},
     {PAGE_CAPACITY, 510, 0x01, 0, 6},
     {FILLED_CAPACITY, 511, 0x01, 0, 6},
     {FILL_PAGE, 509, 0xff, 0, 6},
     {WRITE_SECOND, 510, 0x10, 0, 6},
     {READ_SECOND, 511, 0x80, 0, 6},
+    {WRITE_INSPECT, 509, 0x01, 0, 6},
+    {READ_INSPECT, 510, 0x01, 0, 6},
+    {READ_INSPECT, 2, 0, 0, 7}, /* a pair 11 that is not read */
 #endif
 };
 
@@ -271,8 +269,6 @@ static void make_inspect(int i)
 {
     uint64_t fits;
 
-    if (!INSPECT)
-        return;
     memcpy(inspect[i], first[i], sizeof inspect[i]);
     fits = plain_write_inspect(inspect[i], sizeof inspect[i], sparse[i],
                                sizeof sparse[i]);
