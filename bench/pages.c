@@ -32,17 +32,20 @@
  * turn for each set cell, write second and read second one for each data cell,
  * write inspect and read inspect one for each pair; page capacity and fill page
  * take the same on every page. */
-enum { MOST_SET = COUNT, MOST_ROOM, SHORT_RECORD, ACCEPTED };
+enum { MOST_SET = COUNT, MOST_ROOM, SHORT_RECORD, LAST_PART, ACCEPTED };
 
-/* All words have the value. The record of the Inspect code is all ones: a pair
- * each. */
+/* All words have the value. The record of the Inspect code has some zeros, then
+ * ones: a pair each. */
 static const struct {
     uint32_t value;
     size_t longest; /* the record's bytes, or fewer where these do not fit */
+    size_t zeros;   /* bits */
 } worst[ACCEPTED - COUNT] = {
-    {2971215072u, RECORD_BYTES}, /* every odd cell is set */
-    {0, RECORD_BYTES},           /* 23 data cells a word */
-    {0, 10}, /* of all lengths the longest to copy and to test the spare cells */
+    {2971215072u, RECORD_BYTES, 0}, /* every odd cell is set */
+    {0, RECORD_BYTES, 0},           /* 23 data cells a word */
+    {0, 10, 0}, /* the longest to copy and to test the spare cells */
+    /* the walk ends in the last word, four cells before its end */
+    {0, RECORD_BYTES, PAGE_BYTES == 512 ? 4 : 12},
 };
 
 #if PAGE_BYTES == 512
@@ -138,8 +141,8 @@ static const struct operation operations[] = {
     {"plain_read_second", call_plain_read_second, SHORT_RECORD},
     {"wom_write_inspect", call_wom_write_inspect, MOST_ROOM},
     {"plain_write_inspect", call_plain_write_inspect, MOST_ROOM},
-    {"wom_read_inspect", call_wom_read_inspect, MOST_ROOM},
-    {"plain_read_inspect", call_plain_read_inspect, MOST_ROOM},
+    {"wom_read_inspect", call_wom_read_inspect, LAST_PART},
+    {"plain_read_inspect", call_plain_read_inspect, LAST_PART},
 };
 
 #define OPERATIONS ((int)(sizeof operations / sizeof operations[0]))
@@ -237,6 +240,15 @@ static void fill_sparsely(uint8_t *bytes, size_t length, uint64_t *state)
     }
 }
 
+/* Ones, after that many bits 0. */
+static void fill_with_ones(uint8_t *bytes, size_t length, size_t zeros)
+{
+    size_t i;
+
+    for (i = zeros; i < 8 * length; i++)
+        bytes[i / 8] |= (uint8_t)(0x80 >> i % 8);
+}
+
 static void put_values(uint8_t *bytes, uint32_t value)
 {
     int i;
@@ -292,7 +304,7 @@ static void make_pages(void)
     for (; i < ACCEPTED; i++) {
         put_values(data[i], worst[i - COUNT].value);
         make_page(i, worst[i - COUNT].longest, &state);
-        memset(sparse[i], 0xff, sizeof sparse[i]);
+        fill_with_ones(sparse[i], sizeof sparse[i], worst[i - COUNT].zeros);
         make_inspect(i);
     }
 }
