@@ -1,6 +1,7 @@
 /*
  * One text for two chips: the life of a page between two erases on a part with
- * pages of 256 bytes, and on one with pages of 512. What goes by the page's size
+ * pages of 256 bytes, and on one with pages of 512, where a record of the
+ * Inspect code is longer than one byte can tell. What goes by the page's size
  * comes from wom.h, and every call finds the size from the length that it is
  * given. Then what is refused where the two are mixed up.
  *
@@ -23,9 +24,9 @@
 
 #include "wom.h"
 
-/* Room for a page of either chip, and for its first record. */
+/* Room for a page of either chip, and for its longest record. */
 #define PAGE_ROOM   WOM_LARGE_PAGE_BYTES
-#define RECORD_ROOM WOM_FIRST_BYTES_OF(WOM_LARGE_PAGE_BYTES)
+#define RECORD_ROOM WOM_INSPECT_BYTES_MAX_OF(WOM_LARGE_PAGE_BYTES)
 
 /* A model of a part: one page, which can only be set. */
 struct part {
@@ -93,6 +94,16 @@ static void put_text(uint8_t *record, size_t length)
         record[i] = (uint8_t)text[i % (sizeof text - 1)];
 }
 
+/* Hall calls, which are few: of every 13 bits one is 1. */
+static void put_calls(uint8_t *record, size_t length)
+{
+    size_t i;
+
+    memset(record, 0, length);
+    for (i = 0; i < 8 * length; i += 13)
+        record[i / 8] |= (uint8_t)(0x80 >> i % 8);
+}
+
 /* The first record, written and read back. */
 static int first_round(struct part *part)
 {
@@ -157,10 +168,42 @@ static int second_round(struct part *part)
     return 1;
 }
 
+/* Over a page in its first round, by the Inspect code: of the longest record
+ * that any page takes as many bytes as this one takes, which the refusal of the
+ * whole tells. */
+static int inspect_round(struct part *part)
+{
+    size_t length = WOM_INSPECT_BYTES_MAX_OF(part->size);
+    uint8_t page[PAGE_ROOM], record[RECORD_ROOM], out[RECORD_ROOM];
+    uint64_t answer;
+
+    put_calls(record, length);
+    memcpy(page, part->cells, part->size);
+    answer = wom_write_inspect(page, part->size, record, length);
+    if (wom_refusal(answer) == WOM_REFUSED_RECORD_LENGTH) {
+        length = (size_t)wom_index(answer) / 8;
+        answer = wom_write_inspect(page, part->size, record, length);
+    }
+    if (!accepted("write inspect", answer) || !program(part, page))
+        return 0;
+    answer = wom_read_inspect(part->cells, part->size, out, sizeof out);
+    if (!accepted("read inspect", answer))
+        return 0;
+    printf("  or by Inspect      %3zu bytes, read back; bytes 1 and 2 are %u, "
+           "%u\n",
+           length, part->cells[1], part->cells[2]);
+    return wom_result(answer) == length && memcmp(out, record, length) == 0;
+}
+
 static int live(struct part *part)
 {
+    struct part other; /* with the same first record */
+
     printf("A page of %zu bytes\n", part->size);
-    return first_round(part) && fill(part) && second_round(part);
+    if (!first_round(part))
+        return 0;
+    other = *part;
+    return fill(part) && second_round(part) && inspect_round(&other);
 }
 
 /* Pages taken for pages of the other chip. Bytes after the small page are those
