@@ -5,11 +5,12 @@
  * its fill; then the same of pages of 512 bytes, of 88 times that value and of
  * 352 zero bytes. By the Inspect code, over the page of 176 zero bytes: how
  * many bits go in of a record of ones and of one of zeros that are too long,
- * and the length of the longest of each that is accepted. Prints these sixteen
- * numbers in three lines:
+ * and the length of the longest of each that is accepted; then the same over
+ * that of 352. Prints these twenty numbers in four lines:
  *
  *     least greatest sure longest fewest most
  *     least greatest sure longest fewest most
+ *     least greatest sure longest
  *     least greatest sure longest
  *
  * Exit status 1 when a first writing, a fill or a measurement is refused, a
@@ -24,7 +25,7 @@
 
 #include "wom.h"
 
-#define TOO_LONG 300 /* bytes; more than any page takes */
+#define TOO_LONG 600 /* bytes; more than any page takes */
 
 typedef uint64_t writer(uint8_t *page, size_t page_length,
                         const uint8_t *record, size_t record_length);
@@ -90,10 +91,9 @@ static size_t longest(writer *write, const uint8_t *page, size_t size,
 }
 
 /* How many bits of a record of equal bytes go in by the Inspect code. */
-static uint64_t go_in(const uint8_t *page, uint8_t byte)
+static uint64_t go_in(const uint8_t *page, size_t size, uint8_t byte)
 {
-    uint64_t refused =
-        answer(wom_write_inspect, page, WOM_PAGE_BYTES, byte, TOO_LONG);
+    uint64_t refused = answer(wom_write_inspect, page, size, byte, TOO_LONG);
 
     if (wom_refusal(refused) == WOM_REFUSED_RECORD_LENGTH)
         return wom_index(refused);
@@ -118,21 +118,21 @@ static void print_fill_code(size_t size)
            longest(wom_write_second, greatest, size, 0), fewest, most);
 }
 
-static void print_inspect_code(void)
+static void print_inspect_code(size_t size)
 {
-    uint8_t page[WOM_PAGE_BYTES];
+    uint8_t page[WOM_LARGE_PAGE_BYTES];
 
-    make_page(page, sizeof page, 0);
-    printf("%" PRIu64 " %" PRIu64 " %zu %zu\n", go_in(page, 0xff),
-           go_in(page, 0),
-           longest(wom_write_inspect, page, sizeof page, 0xff),
-           longest(wom_write_inspect, page, sizeof page, 0));
+    make_page(page, size, 0);
+    printf("%" PRIu64 " %" PRIu64 " %zu %zu\n", go_in(page, size, 0xff),
+           go_in(page, size, 0), longest(wom_write_inspect, page, size, 0xff),
+           longest(wom_write_inspect, page, size, 0));
 }
 
 int main(void)
 {
     print_fill_code(WOM_PAGE_BYTES);
     print_fill_code(WOM_LARGE_PAGE_BYTES);
-    print_inspect_code();
+    print_inspect_code(WOM_PAGE_BYTES);
+    print_inspect_code(WOM_LARGE_PAGE_BYTES);
     return 0;
 }
