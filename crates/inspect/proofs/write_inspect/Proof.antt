@@ -105,7 +105,7 @@ walk-words-requires-2 c κs =
       omega (arith, ap length e, length-drop 253 (a .page .now), p .sized, words-inside (h .sound), h .least),
       omega (arith, h .sound .few),
       ap (λ (q : List ℕ). lowest legal (pageWords q n)) e ∙ back-passed _ h _ legal (p .words-pass),
-      half-inside _ h _ _ p _ _ u refl,
+      omega (arith, half-inside _ h _ _ p _ _ u refl),
       omega (arith, half-few _ h _ _ p _ _ u refl),
       omega (arith, h .sound .few),
     )
