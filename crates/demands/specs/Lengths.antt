@@ -2,13 +2,13 @@
 -- 2 at 0 and reads with the same length." proofs/Lengths.antt proves each clause.
 -- Assumes nothing.
 use mathlib.Core.Bool.{Bool, not, _||_}
-use mathlib.Core.List.{List, [], _∷_, _++_}
+use mathlib.Core.List.{List, [], _∷_}
 use mathlib.Core.Path.{_≡_}
-use Prim.Native.Nat.{ℕ, _*_, _≤_}
+use Prim.Native.Nat.{ℕ, _*_}
 use lib.Dec.{eqb, ltb}
 use lib.ListN.{length, drop}
 use Rattle.cells.specs.Bytes.{bits, bytes, Bytes, zeros, atStart}
-use Rattle.answer.specs.Answer.{Answer, result, Check, refuse, answer, after}
+use Rattle.answer.specs.Answer.{Answer, result, refuse, answer, after}
 use Rattle.window.specs.Words.{pageWords, putWords}
 use Rattle.rows.specs.declared.shape.Shape.{Shape}
 use Rattle.rows.specs.Page.{page256, page512, state, byte1, byte2, recordLength, tail}

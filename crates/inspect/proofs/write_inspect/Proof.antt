@@ -1,7 +1,6 @@
 -- `inspect::write_inspect` meets its contract: the check's refusals are its own; the words are walked aside, half by half, and where their walks
 -- take all the record's bits, they replace the page's. All for the page's own shape. Assumes nothing.
 mod Aside
-use mathlib.Core.Bool.{Bool}
 use mathlib.Core.List.{List, _++_}
 use mathlib.Core.Path.{_≡_, refl, sym, ap, _∙_}
 use Prim.Native.Nat.{ℕ, _+_, _-_, _*_, _/_, _≤_}

@@ -9,7 +9,6 @@ use lib.ListN.{length, take, drop, getD, set, replicate, length-append, length-d
 use lib.Seq.{take-all, take-at, drop-at, drop-drop, length-take-le}
 use Rattle.cells.specs.Cells.{someSet}
 use Rattle.cells.specs.Bytes.{bits, bytes, Bytes, atStart}
-use Rattle.cells.proofs.Bytes.{length-bytes}
 use Rattle.answer.specs.Answer.{Answer, result, refusal, answer}
 use Rattle.window.specs.Words.{pageWords, putCells}
 use Rattle.window.proofs.Words.{length-pageWords, Words-pageWords, length-putCells}
@@ -20,7 +19,7 @@ use Rattle.rows.specs.Page.{recordLength, lowest}
 use Rattle.rows.specs.Code.{foundOf, judgedOf, recordOf, AllJudgedOf, SecondRoundOf}
 use Rattle.rows.proofs.Lowest.{lowest-le, lowest-front, lowest-back, passed-before}
 use Rattle.rows.proofs.Shapes.{words-inside}
-use Rattle.page.specs.Terms.{RecordHeaderOf, LowestBad}
+use Rattle.page.specs.Terms.{RecordHeaderOf}
 use Rattle.page.specs.Answer.{readChecks}
 use Rattle.page.proofs.Headed.{row-bad}
 use Rattle.page.proofs.CodeAnswers.{second-passed, length-judged, read-taken, read-3, read-7, read-9}

@@ -11,7 +11,7 @@ use Rattle.cells.specs.Bytes.{bits, bytes, Bytes, atStart}
 use Rattle.cells.proofs.Bytes.{length-bits, bytes-add, Bytes-three, Bytes-drop}
 use Rattle.cells.proofs.Fits.{bytes-front}
 use Rattle.answer.specs.Answer.{result, refusal, answer}
-use Rattle.window.specs.Words.{start, join, pageWords, pageOf, putWords, Words}
+use Rattle.window.specs.Words.{join, pageWords, pageOf, putWords, Words}
 use Rattle.window.proofs.Words.{length-join, join-append, length-putWords, length-pageWords, Words-pageWords, putWords-all}
 use Rattle.rows.specs.declared.shape.Shape.{Shape}
 use Rattle.rows.specs.Page.{stateInspect, withHeader, blankOf, FirstRoundOf}
