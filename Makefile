@@ -30,7 +30,7 @@ demo: archive ## proves the library, and shows a page's life on a model of the p
 	@echo
 	@target/demo/carry 0x12345678 target/demo/pages.bin target/demo/lift.bin
 
-test: ## the gate: removes target/, proves every crate, tries the must-fail edits, runs the tests: about 27 minutes
+test: ## the gate: removes target/, proves every crate, tries the must-fail edits, runs the tests: about 26 minutes
 	.ci/run
 
 # The old archive goes first, so that none is left where this fails.
