@@ -10,7 +10,7 @@ use borrow.Author.Tests.{eq-eqb, ne-eqb, eqb-true}
 use lib.Dec.{T, eqb}
 use lib.ListN.{length, drop}
 use Rattle.cells.specs.Bytes.{atStart}
-use Rattle.answer.specs.Answer.{Answer, result, refusal, Check, refuse, answer, after, None, numbers, among, RefusesBy}
+use Rattle.answer.specs.Answer.{AnswerOf, result, refusal, Check, refuse, answer, after, None, numbers, among, RefusesBy}
 
 -- ---- the answer of a list
 
@@ -100,22 +100,22 @@ refused (refuse false m j ∷ cs) ds b x n i k f g =
 
 -- ---- what an answer leaves
 
-pub refused-leaves : (a : Answer) (old new : List ℕ) (n i : ℕ) → a ≡ refusal n i → after a old new ≡ old
-refused-leaves a old new n i e = ap (λ (x : Answer). after x old new) e
+pub refused-leaves : {A : Type 0} (a : AnswerOf A) (old new : List ℕ) (n i : ℕ) → a ≡ refusal n i → after a old new ≡ old
+refused-leaves {A} a old new n i e = ap (λ (x : AnswerOf A). after x old new) e
 
-pub taken-leaves : (a : Answer) (old new : List ℕ) (v : ℕ) → a ≡ result v → after a old new ≡ new
-taken-leaves a old new v e = ap (λ (x : Answer). after x old new) e
+pub taken-leaves : {A : Type 0} (a : AnswerOf A) (old new : List ℕ) (v : A) → a ≡ result v → after a old new ≡ new
+taken-leaves {A} a old new v e = ap (λ (x : AnswerOf A). after x old new) e
 
 -- an output: the new bytes at its start
-pub output-leaves : (a : Answer) (out new r : List ℕ) (v : ℕ) → a ≡ result v → new ≡ r
+pub output-leaves : {A : Type 0} (a : AnswerOf A) (out new r : List ℕ) (v : A) → a ≡ result v → new ≡ r
     → after a out (atStart new out) ≡ r ++ drop (length r) out
 unfolding atStart
 output-leaves a out new r v e f = taken-leaves a out (atStart new out) v e ∙ ap (λ (x : List ℕ). x ++ drop (length x) out) f
 
 -- an answer and its buffer together
-module _ (a : Answer) (old new : List ℕ) where
+module _ {A : Type 0} (a : AnswerOf A) (old new : List ℕ) where
   pub both-refused : (n i : ℕ) → a ≡ refusal n i → (refusal n i ≡ a) × (old ≡ after a old new)
   both-refused n i e = (sym e, sym (refused-leaves a old new n i e))
 
-  pub both-done : (x : ℕ) (now : List ℕ) → a ≡ result x → now ≡ new → (result x ≡ a) × (now ≡ after a old new)
+  pub both-done : (x : A) (now : List ℕ) → a ≡ result x → now ≡ new → (result x ≡ a) × (now ≡ after a old new)
   both-done x now e s = (sym e, s ∙ sym (taken-leaves a old new x e))

@@ -26,7 +26,7 @@ answer [] x = result x
 answer (refuse b n i ∷ cs) x = cond b (refusal n i) (answer cs x)
 
 -- "A refusal writes nothing": what a buffer holds afterwards, by the answer, from what it held and what an accepted call leaves
-abbrev pub after : Answer → List ℕ → List ℕ → List ℕ
+abbrev pub after : {A : Type 0} → AnswerOf A → List ℕ → List ℕ → List ℕ
 after (result x) old new = new
 after (refusal n i) old new = old
 

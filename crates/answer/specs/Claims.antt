@@ -5,7 +5,7 @@ use mathlib.Core.List.{List, _∷_, _++_}
 use mathlib.Core.Logic.{_↔_}
 use mathlib.Core.Path.{_≡_}
 use Prim.Native.Nat.{ℕ, _-_, _^_, _≤_, _<_}
-use Rattle.answer.specs.Answer.{Answer, result, refusal, Check, refuse, answer, after, None, numbers, among, RefusesBy}
+use Rattle.answer.specs.Answer.{AnswerOf, result, refusal, Check, refuse, answer, after, None, numbers, among, RefusesBy}
 use Rattle.answer.specs.Layout.{Faithful, FaithfulParts, Small}
 
 -- Of answers with results of any kind A.
@@ -20,7 +20,7 @@ pub record FirstRefusalGiven (A : Type 0) : Type 0 where
   -- a later answer keeps an earlier refusal
   pub still-refused : (cs ds : List Check) (x y : A) (n i : ℕ) → answer cs x ≡ refusal n i → answer (cs ++ ds) y ≡ refusal n i
   -- a refused call leaves a buffer as it was
-  pub refused-leaves : (a : Answer) (old new : List ℕ) (n i : ℕ) → a ≡ refusal n i → after a old new ≡ old
+  pub refused-leaves : (a : AnswerOf A) (old new : List ℕ) (n i : ℕ) → a ≡ refusal n i → after a old new ≡ old
 
 -- A packed answer can be taken apart: where no result and no index reaches the number's bits, and where each part of a result of two keeps
 -- to its own bits.

@@ -157,7 +157,7 @@ module _ (c : Code) (same : (n : ℕ) (ws : List (List Bool)) → length (c .jud
 
 -- the answer and what the page, or the output, holds afterwards are right by a shape
 abbrev pub WriteRight : Code → List ℕ → List ℕ → Answer → List ℕ → Shape → Type 0
-WriteRight c P R a Q s = (a ≡ answer (writeChecks c s P R) 0) × (Q ≡ after (answer (writeChecks c s P R) 0) P (writtenOf c s P R))
+WriteRight c P R a Q s = (a ≡ answer (writeChecks c s P R) 0) × (Q ≡ after {A = ℕ} (answer (writeChecks c s P R) 0) P (writtenOf c s P R))
 
 abbrev pub ReadRight : Code → List ℕ → List ℕ → Answer → List ℕ → Shape → Type 0
 ReadRight c P out a Q s =
