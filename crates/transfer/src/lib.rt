@@ -2,13 +2,29 @@
 //
 // The operation takes byte slices of every length and has no `requires`. It answers by an enum: a value case, and a case for each refusal.
 // The first refusal that applies is given, and a refusal writes no byte.
+use cells::copy_page;
 use cells::put_bytes;
 ghost use mathlib.Core.Path.{_≡_};
 ghost use Prim.Native.Nat.{_+_, _*_, _≤_};
-ghost use lib.ListN.{length, take, drop};
+ghost use lib.ListN.{length};
 ghost use lib.Seq.{sets};
 ghost use Rattle.transfer.specs.File.{start, head, deviceField, pageFields};
 ghost use Rattle.transfer.specs.Answer.{writeFileAnswer, writeFileLeaves, fileWrittenCode};
+
+// The fixed start, the tags, and the sizes of what they hold, for the reader too.
+pub const START: [u8; 2] = *b"\xF1\xB0";
+
+pub const DEVICE_TAG: u8 = 0x02;
+
+pub const PAGE_TAG: u8 = 0x01;
+
+pub const END_TAG: u8 = 0x7F;
+
+pub const DEVICE_BYTES: u16 = 4;
+
+pub const PAGE_BYTES: u16 = 256;
+
+pub const MOST_PAGES: usize = 64;
 
 // What writing a file gives.
 pub enum FileWritten {
@@ -22,9 +38,8 @@ fn put_start(out: &mut [u8])
     requires { ⌜ 2 ≤ length (now out) ⌝ }
     ensures { λ _. ⌜ now (out .exit) ≡ sets (now (out .entry)) 0 start ⌝ }
 {
-    let fixed = b"\xF1\xB0";
-    out[0] = fixed[0];
-    out[1] = fixed[1];
+    out[0] = START[0];
+    out[1] = START[1];
 }
 
 // Puts a field's tag and the length of its contents at byte k.
@@ -42,18 +57,8 @@ fn put_device(out: &mut [u8], device: u32)
     requires { ⌜ 9 ≤ length (now out) ⌝ }
     ensures { λ _. ⌜ now (out .exit) ≡ sets (now (out .entry)) 2 (deviceField device) ⌝ }
 {
-    put_head(out, 2, 0x02, 4);
+    put_head(out, 2, DEVICE_TAG, DEVICE_BYTES);
     put_bytes(out, 5, 4, device as u64);
-}
-
-// Copies a page, which starts at byte `from`, to byte k. It is compiled to moves of 16 bytes.
-fn copy_page(out: &mut [u8], k: usize, pages: &[u8], from: usize)
-    requires { ⌜ (k + 256 ≤ length (now out)) × (from + 256 ≤ length (now pages)) ⌝ }
-    ensures { λ _. ⌜ now (out .exit) ≡ sets (now (out .entry)) k (take 256 (drop from (now (pages .entry)))) ⌝ }
-{
-    for j in 0..256 {
-        out[k + j] = pages[from + j];
-    }
 }
 
 // Puts the fields of n pages, from byte 9 on.
@@ -62,7 +67,7 @@ fn put_pages(out: &mut [u8], pages: &[u8], n: usize)
     ensures { λ _. ⌜ now (out .exit) ≡ sets (now (out .entry)) 9 (pageFields n (now (pages .entry))) ⌝ }
 {
     for i in 0..n {
-        put_head(out, 9 + 259 * i, 0x01, 256);
+        put_head(out, 9 + 259 * i, PAGE_TAG, PAGE_BYTES);
         copy_page(out, 12 + 259 * i, pages, 256 * i);
     }
 }
@@ -76,7 +81,7 @@ pub fn write_file(device: u32, pages: &[u8], out: &mut [u8]) -> FileWritten
     if pages.len() % 256 != 0 {
         return FileWritten::PagesLength;
     }
-    if 256 * 64 < pages.len() {
+    if 256 * MOST_PAGES < pages.len() {
         return FileWritten::PagesLength;
     }
     let n = pages.len() / 256;
@@ -87,6 +92,6 @@ pub fn write_file(device: u32, pages: &[u8], out: &mut [u8]) -> FileWritten
     put_start(out);
     put_device(out, device);
     put_pages(out, pages, n);
-    put_head(out, end, 0x7F, 0);
+    put_head(out, end, END_TAG, 0);
     FileWritten::Length((end + 3) as u32)
 }
