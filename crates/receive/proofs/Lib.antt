@@ -1,0 +1,8 @@
+-- The laws of reading a transfer file.
+pub mod Judging
+pub mod Walking
+pub mod Copying
+pub mod Grammar
+pub mod Faults
+pub mod Claims
+pub mod Packing
