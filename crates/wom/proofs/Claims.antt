@@ -39,6 +39,7 @@ use Rattle.transfer.specs.File.{fileOf}
 use Rattle.transfer.specs.Answer.{writeFileChecks}
 use Rattle.transfer.proofs.Places.{length-file}
 use Rattle.transfer.proofs.FileAnswers.{not-carried}
+use Rattle.receive.proofs.Packing.{read-parts}
 use Rattle.wom.specs.Claims.{WordAnswersFaithful, PageAnswersFaithful}
 
 -- ---- words
@@ -187,4 +188,5 @@ page-answers-faithful = record {
       (reader-small f P inspectCode out (length-unwalkedAll (8 * recordLength P) (pageWords P n) ∙ length-pageWords P n))
       (length-small f P inspectCode out (omega (arith, f .few)));
   write-file = λ d P out. taken-apart (writeFileChecks d P out) _ (omega arith, (omega arith, tt)) (file-small d P out);
+  read-file = read-parts;
 }

@@ -1,13 +1,14 @@
 // The entry points for C, thin: each calls one operation and packs its answer. include/wom.h declares them.
 //
 // Bits 56 to 63 of an answer are the refusal's number, 0 for none; bits 0 to 55 are the result, or the refusal's index: the word's for 7,
-// the capacity or the bits taken for 8, else 0. The word fill's result has the word in bits 0 to 47 and the pulses in bits 48 to 55. Every entry is defined for
-// every argument.
+// the capacity or the bits taken for 8, else 0. The word fill's result has the word in bits 0 to 47 and the pulses in bits 48 to 55, read
+// file's the device number in bits 0 to 31 and the pages in bits 32 to 55. Every entry is defined for every argument.
 use filled::PageFilled;
 use inspect::InspectRead;
 use inspect::InspectWritten;
 use page::FirstRead;
 use page::FirstWritten;
+use receive::FileRead;
 use second::SecondRead;
 use second::SecondWritten;
 use transfer::FileWritten;
@@ -25,6 +26,7 @@ ghost use Rattle.filled.specs.Answer.{fillPageAnswer, fillPageLeaves, pageCapac
 ghost use Rattle.second.specs.Answer.{writeSecondAnswer, writeSecondLeaves, readSecondAnswer, readSecondLeaves, secondWrittenCode, secondReadCode};
 ghost use Rattle.inspect.specs.Answer.{writeInspectAnswer, writeInspectLeaves, readInspectAnswer, readInspectLeaves, inspectWrittenCode, inspectReadCode};
 ghost use Rattle.transfer.specs.Answer.{writeFileAnswer, writeFileLeaves, fileWrittenCode};
+ghost use Rattle.receive.specs.Read.{readFileAnswer, readFileLeaves, fileReadCode};
 ghost use Rattle.filled.specs.Answer as pages;
 
 const PAGE_LENGTH: u64 = 1 << 56;
@@ -53,6 +55,12 @@ const NEIGHBOURS: u64 = 11 << 56;
 const SUM_TOO_LARGE: u64 = 12 << 56;
 
 const PAGES_LENGTH: u64 = 13 << 56;
+
+const FILE_CUT: u64 = 14 << 56;
+
+const FILE_FIELD: u64 = 15 << 56;
+
+const FILE_TAIL: u64 = 16 << 56;
 
 fn pack_encoded(e: Encoded) -> u64
     ensures { λ r. ⌜ r ≡ packed (encodedCode e) ⌝ }
@@ -326,4 +334,25 @@ pub extern "C" fn wom_write_file(device: u32, pages: &[u8], out: &mut [u8]) -> u
     ensures bytes { λ _. ⌜ now (out .exit) ≡ writeFileLeaves device (now (pages .entry)) (now (out .entry)) ⌝ }
 {
     pack_file_written(transfer::write_file(device, pages, out))
+}
+
+fn pack_file_read(f: FileRead) -> u64
+    ensures { λ r. ⌜ r ≡ packed (joined 32 (fileReadCode f)) ⌝ }
+{
+    match f {
+        FileRead::Contents { device, pages } => device as u64 + ((pages as u64) << 32),
+        FileRead::FileCut => FILE_CUT,
+        FileRead::FileField => FILE_FIELD,
+        FileRead::FileTail => FILE_TAIL,
+        FileRead::OutputLength => OUTPUT_LENGTH,
+    }
+}
+
+// Read file: the device number and the number of pages, or 14, 15 or 16, which is met first, or 3.
+#[no_mangle]
+pub extern "C" fn wom_read_file(file: &[u8], out: &mut [u8]) -> u64
+    ensures answer { λ r. ⌜ r ≡ packed (joined 32 (readFileAnswer (now (file .entry)) (now (out .entry)))) ⌝ }
+    ensures bytes { λ _. ⌜ now (out .exit) ≡ readFileLeaves (now (file .entry)) (now (out .entry)) ⌝ }
+{
+    pack_file_read(receive::read_file(file, out))
 }
