@@ -4,5 +4,7 @@ pub mod Walking
 pub mod Copying
 pub mod Grammar
 pub mod Faults
-pub mod Claims
+pub mod Rules
+pub mod Answers
 pub mod Packing
+pub mod Claims
