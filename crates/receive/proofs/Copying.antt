@@ -7,18 +7,19 @@ use Prim.Native.Nat.{ℕ, zero, suc, _+_, _-_, _*_, _/_, _≤_, _<_}
 use native.Mathlib.Omega.{arith}
 use borrow.Author.Tests.{ltb-true, ltb-false}
 use lib.Dec.{T, eqb, ltb}
-use lib.ListN.{length, take, drop, length-append, length-drop}
+use lib.ListN.{length, take, drop, getD, length-append, length-drop}
 use lib.Seq.{sets, length-take-le}
 use Rattle.cells.proofs.Storing.{sets-then, sets-atStart}
 use Rattle.cells.specs.Bytes.{atStart}
 use Rattle.answer.specs.Answer.{AnswerOf, result, refusal, refuse, answer, after}
 use Rattle.answer.proofs.Tells.{less, first-refused, passed}
-use Rattle.receive.specs.Field.{Sort, device, page, end, passedOver, unknown, least, most, sortIn, lengthIn, contentsIn, behind}
-use Rattle.receive.specs.Read.{fieldChecks, fieldOf, fieldAt, andThen, afterEnd, nextRead, fieldsRead, fieldsTold, fileTold, Told, Counts, counted, pagesTold, wrongStart, readFileAnswer, readFileLeaves}
+use Rattle.receive.specs.Field.{Sort, device, page, end, passedOver, unknown, sortOf, isUnknown, least, most, sortIn, lengthIn, contentsIn, behind}
+use Rattle.receive.specs.Read.{fieldChecks, fieldOf, kindAt, fieldAt, andThen, afterEnd, nextRead, fieldsRead, fieldsTold, fileTold, Told, Counts, counted, pagesTold, wrongStart, readFileAnswer, readFileLeaves}
+use Rattle.receive.specs.declared.fields.Field.{Field}
 use Rattle.receive.specs.declared.fields.FieldKind.{FieldKind}
-use Rattle.receive.specs.declared.fields.FieldKind.the-variants.{Device, Page, End, Skipped}
-use Rattle.receive.proofs.Judging.{start-short}
-use Rattle.receive.proofs.Walking.{Sound, field-sound, Stands, stands-first, stands-refused, after-device, Paged, after-page, after-skipped, after-end}
+use Rattle.receive.specs.declared.fields.FieldKind.the-variants.{Page}
+use Rattle.receive.proofs.Judging.{Tagged, tagged, sort-01, sort-at, start-short}
+use Rattle.receive.proofs.Walking.{Sound, field-sound, read-whole, Stands, stands-first, stands-refused, further, after-device, Paged, after-page, after-skipped, after-end}
 
 -- ---- pages are only added
 
@@ -83,60 +84,105 @@ end-counts n d P r x h e = go (not (eqb (length r) 0)) (subst (Counts n) (sym e)
     go true k = absurd k
     go false k = k
 
--- before the field at offset i the pages so far are put
-pub record Copies (file out₀ : List ℕ) (n : ℕ) (out : List ℕ) (i s : ℕ) : Type 0 where
+-- before the field at offset i the first k pages are put
+pub record Copies (file out₀ : List ℕ) (n : ℕ) (out : List ℕ) (i k : ℕ) : Type 0 where
+  pub s : ℕ
   pub d : ℕ
   pub P : List ℕ
   pub stands : Stands file i s d P
   pub put : out ≡ sets out₀ 0 P
   pub same : length out ≡ length out₀
-  pub few : s ≤ n + 1
+  pub count : k ≡ s - 1
 
 pub copies-first : (file out : List ℕ) (n : ℕ) → 2 ≤ length file → Copies file out n out 2 0
-copies-first file out n h = record { d = 0; P = []; stands = stands-first file h; put = refl; same = refl; few = omega arith }
+copies-first file out n h = record { s = 0; d = 0; P = []; stands = stands-first file h; put = refl; same = refl; count = refl }
 
-module _ (file out₀ : List ℕ) (n : ℕ) (out : List ℕ) (i s : ℕ) (c : Copies file out₀ n out i s) (h : Counts n (fieldsTold file)) where
-  pub copies-last : n < s → out ≡ sets out₀ 0 (pagesTold (fieldsTold file))
+module _ (file out₀ : List ℕ) (n : ℕ) (out : List ℕ) (i k : ℕ) (c : Copies file out₀ n out i k) (h : Counts n (fieldsTold file)) where
+  -- all pages are there
+  pub copies-last : n ≤ k → out ≡ sets out₀ 0 (pagesTold (fieldsTold file))
   copies-last l = go (fieldsTold file) h refl
     where
       go : (x : AnswerOf Told) → Counts n x → fieldsTold file ≡ x → out ≡ sets out₀ 0 (pagesTold x)
-      go (refusal a b) k e = absurd k
-      go (result t) k e =
-          let q = grown (c .stands .turns) s (c .d) (c .P) (drop i file) t (c .stands .left ∙ e) in
-          c .put ∙ ap (sets out₀ 0) (all (c .P) (q .more) (t .1) (q .is) (omega (arith, k, c .stands .full, c .few)))
+      go (refusal a b) m e = absurd m
+      go (result t) m e =
+          let q = grown (c .stands .turns) (c .s) (c .d) (c .P) (drop i file) t (c .stands .left ∙ e) in
+          c .put ∙ ap (sets out₀ 0) (all (c .P) (q .more) (t .1) (q .is) (omega (arith, m, c .stands .full, c .count)))
         where
           all : (P Q R : List ℕ) → R ≡ P ++ Q → length R ≤ length P → P ≡ R
           all P [] R e l = sym (append-nil P) ∙ sym e
           all P (x ∷ Q) R e l = absurd (omega (arith, ap length e, length-append P (x ∷ Q)))
 
-  module _ (m : ℕ) (k : FieldKind) (e : fieldAt file i s ≡ result (fieldOf m k)) (l : s ≤ n) where
-    pub copies-device : (x : ℕ) → k ≡ Device x → Copies file out₀ n out m (s + 1)
-    copies-device x q = record { d = x; P = c .P; stands = after-device file i s (c .d) (c .P) (c .stands) m k e x q; put = c .put; same = c .same; few = omega arith }
+  abbrev g : List ℕ
+  g = drop i file
 
-    pub copies-skipped : k ≡ Skipped → Copies file out₀ n out m s
-    copies-skipped q = record { d = c .d; P = c .P; stands = after-skipped file i s (c .d) (c .P) (c .stands) m k e q; put = c .put; same = c .same; few = c .few }
+  abbrev next : ℕ
+  next = i + 3 + lengthIn g
 
-    pub paged : (from : ℕ) → k ≡ Page from → Paged file i s (c .d) (c .P) (c .stands) m k e from
-    paged from q = after-page file i s (c .d) (c .P) (c .stands) m k e from q
+  abbrev kind : FieldKind
+  kind = kindAt (sortIn g) file i
 
-    pub copies-page : (from : ℕ) (next : List ℕ) → k ≡ Page from → next ≡ sets out (256 * (s - 1)) (take 256 (drop from file)) → length next ≡ length out
-        → Copies file out₀ n next m (s + 1)
-    copies-page from next q en es =
-        let p = take 256 (drop from file) in
-        record {
-          d = c .d;
-          P = c .P ++ p;
-          stands = paged from q .after;
-          put = en ∙ ap (λ (o : List ℕ). sets o (256 * (s - 1)) p) (c .put) ∙ sets-then out₀ 0 (c .P) p (256 * (s - 1)) (omega (arith, c .stands .full));
-          same = es ∙ c .same;
-          few = omega arith;
-        }
+  -- the field at offset i is one that the first pass has read
+  field-is : fieldAt file i (c .s) ≡ result (fieldOf next kind)
+  field-is = go (fieldAt file i (c .s)) refl
+    where
+      go : (x : AnswerOf Field) → fieldAt file i (c .s) ≡ x → x ≡ result (fieldOf next kind)
+      go (refusal a b) e = absurd (not-refused n a b (fieldsTold file) h (stands-refused file i (c .s) (c .d) (c .P) (c .stands) a b e))
+      go (result f) e = ap result (read-whole file i (c .s) f e .1)
 
-    -- the end is not met before all are copied
-    pub copies-no-end : k ≡ End → ⊥
-    copies-no-end q =
-        let a = after-end file i s (c .d) (c .P) (c .stands) m k e q in
-        omega (arith, end-counts n (c .d) (c .P) (drop m file) (fieldsTold file) h (a .0), a .1, c .stands .full)
+  -- its head and its contents are in the file
+  pub copies-within : (i + 3 ≤ length file) × (i + 3 + lengthIn g ≤ length file)
+  copies-within =
+      let w = further file i (c .s) (c .d) (c .P) (c .stands) next kind field-is in (omega (arith, w .1), w .1)
+
+  page-sort : getD file i 0 ≡ 0x01 → kind ≡ Page (i + 3)
+  unfolding kindAt
+  page-sort e = ap (λ (t : Sort). kindAt t file i) (sort-at (c .s) i file file page (sort-01 (getD file i 0) e))
+
+  -- it is a page
+  paged : getD file i 0 ≡ 0x01 → Paged file i (c .s) (c .d) (c .P) (c .stands) next kind field-is (i + 3)
+  paged e = after-page file i (c .s) (c .d) (c .P) (c .stands) next kind field-is (i + 3) (page-sort e)
+
+  pub page-there : getD file i 0 ≡ 0x01 → i + 3 + 256 ≤ length file
+  page-there e = paged e .room
+
+  pub copies-page : (o : List ℕ) (r : ℕ) → r ≡ lengthIn g → getD file i 0 ≡ 0x01 → o ≡ sets out (256 * k) (take 256 (drop (i + 3) file))
+      → length o ≡ length out → Copies file out₀ n o (i + 3 + r) (k + 1)
+  copies-page o r er e eo es =
+      let p = take 256 (drop (i + 3) file) in
+      subst (λ (j : ℕ). Copies file out₀ n o (i + 3 + j) (k + 1)) (sym er)
+      record {
+        s = c .s + 1;
+        d = c .d;
+        P = c .P ++ p;
+        stands = paged e .after;
+        put = eo ∙ ap (λ (q : List ℕ). sets q (256 * k) p) (c .put) ∙ sets-then out₀ 0 (c .P) p (256 * k) (omega (arith, c .stands .full, c .count));
+        same = es ∙ c .same;
+        count = omega (arith, c .count, paged e .one);
+      }
+
+  -- it is another one; the end is not met before all pages are copied
+  pub copies-other : (r : ℕ) → r ≡ lengthIn g → ¬ (getD file i 0 ≡ 0x01) → k < n → Copies file out₀ n out (i + 3 + r) k
+  unfolding kindAt
+  copies-other r er ne l = subst (λ (j : ℕ). Copies file out₀ n out (i + 3 + j) k) (sym er) (go (sortIn g) refl)
+    where
+      go : (t : Sort) → sortIn g ≡ t → Copies file out₀ n out next k
+      go device e =
+          let w = after-device file i (c .s) (c .d) (c .P) (c .stands) next kind field-is _ (ap (λ (u : Sort). kindAt u file i) e) in
+          record { s = c .s + 1; d = _; P = c .P; stands = w .0; put = c .put; same = c .same; count = omega (arith, c .count, w .1) }
+      go page e = absurd (ne (subst (λ (u : Sort). Tagged u (getD file i 0)) (sym (sort-at (c .s) i file file (sortOf (getD file i 0)) refl) ∙ e) (tagged (getD file i 0))))
+      go end e =
+          let a = after-end file i (c .s) (c .d) (c .P) (c .stands) next kind field-is (ap (λ (u : Sort). kindAt u file i) e) in
+          absurd (omega (arith, end-counts n (c .d) (c .P) (drop next file) (fieldsTold file) h (a .0), c .stands .full, c .count))
+      go passedOver e = record {
+        s = c .s;
+        d = c .d;
+        P = c .P;
+        stands = after-skipped file i (c .s) (c .d) (c .P) (c .stands) next kind field-is (ap (λ (u : Sort). kindAt u file i) e);
+        put = c .put;
+        same = c .same;
+        count = c .count;
+      }
+      go unknown e = absurd (subst T (sym (ap isUnknown e) ∙ read-whole file i (c .s) (fieldOf next kind) field-is .0 .known) tt)
 
 -- ---- the whole file
 

@@ -21,7 +21,7 @@ use Rattle.receive.specs.Grammar as grammar
 use Rattle.receive.specs.Field.{Sort, device, page, end, passedOver, unknown, sortOf, isUnknown, inPlace, least, most, sortIn, lengthIn, contentsIn, behind}
 use Rattle.receive.specs.Read.{fieldChecks, andThen, afterEnd, nextRead, fieldsRead, fieldsTold, fileTold, wrongStart, Told}
 use Rattle.transfer.proofs.Fields.{head-bytes, length-field, field-of}
-use Rattle.receive.proofs.Judging.{sort-02, sort-01, sort-7F, sort-passed, page-in, end-reached}
+use Rattle.receive.proofs.Judging.{Tagged, tagged, sort-02, sort-01, sort-7F, sort-passed, page-in, end-reached}
 use Rattle.receive.proofs.Walking.{Sound, field-sound, sound-field}
 
 -- ---- a field in front of further bytes
@@ -114,27 +114,6 @@ read-before (grammar.passed {f} {P = Q} {d} tag c w a) (suc m) e h =
     read-passed tag c f w m 0 e [] ∙ read-before a m e (omega (arith, length-append (field tag c) f, length-field tag c))
 
 -- ---- from the reader to the grammar
-
--- the tags of a sort
-abbrev Tagged : Sort → ℕ → Type 0
-Tagged device t = t ≡ 0x02
-Tagged page t = t ≡ 0x01
-Tagged end t = t ≡ 0x7F
-Tagged passedOver t = (0x40 ≤ t) × (t ≤ 0x6F)
-Tagged unknown t = Unit {0}
-
-tagged : (t : ℕ) → Tagged (sortOf t) t
-unfolding sortOf
-tagged t = go (eqb t 0x02) (eqb t 0x01) (eqb t 0x7F) (leb 0x40 t) (leb t 0x6F) refl refl refl refl refl
-  where
-    go : (a b c l m : Bool) → eqb t 0x02 ≡ a → eqb t 0x01 ≡ b → eqb t 0x7F ≡ c → leb 0x40 t ≡ l → leb t 0x6F ≡ m
-        → Tagged (cond a device (cond b page (cond c end (cond (l && m) passedOver unknown)))) t
-    go true b c l m ea eb ec el em = eqb-true t 0x02 ea
-    go false true c l m ea eb ec el em = eqb-true t 0x01 eb
-    go false false true l m ea eb ec el em = eqb-true t 0x7F ec
-    go false false false true true ea eb ec el em = (leb-true 0x40 t el, leb-true t 0x6F em)
-    go false false false true false ea eb ec el em = tt
-    go false false false false m ea eb ec el em = tt
 
 -- a whole field in front: the field and what follows
 rebuilt : (f : List ℕ) → Bytes f → 3 + lengthIn f ≤ length f → f ≡ field (getD f 0 0) (contentsIn f) ++ behind f

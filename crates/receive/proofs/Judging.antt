@@ -1,13 +1,13 @@
 -- Laws of a field's checks, by where it stands in its file.
 -- Assumes nothing.
-use mathlib.Core.Bool.{Bool, true, false, not, _&&_, _||_}
+use mathlib.Core.Bool.{Bool, true, false, cond, not, _&&_, _||_}
 use mathlib.Core.List.{List, [], _∷_}
 use mathlib.Core.Logic.{_↔_, _⊎_, inl, inr, Iff·trans}
 use mathlib.Core.Path.{_≡_, refl, sym, ap, ap₂, _∙_}
 use Prim.Native.Nat.{ℕ, _+_, _-_, _*_, _≤_, _<_}
 use native.Mathlib.Nat.{add-zero}
 use native.Mathlib.Omega.{arith}
-use borrow.Author.Tests.{eq-eqb, ne-eqb, le-leb, lt-leb, lt-ltb, le-ltb}
+use borrow.Author.Tests.{eq-eqb, ne-eqb, eqb-true, leb-true, le-leb, lt-leb, lt-ltb, le-ltb}
 use lib.Dec.{eqb, leb, ltb}
 use lib.ListN.{length, drop, getD, length-drop}
 use lib.Seq.{getD-drop}
@@ -30,11 +30,8 @@ then-result (refuse false n i ∷ cs) x g = then-result cs x g
 
 -- ---- the length and the contents
 
-abbrev pub toldAt : List ℕ → ℕ → ℕ
-toldAt file i = 256 * getD file (i + 1) 0 + getD file (i + 2) 0
-
-pub told-at : (file : List ℕ) (i : ℕ) → lengthIn (drop i file) ≡ toldAt file i
-told-at file i = ap₂ (λ (a b : ℕ). 256 * a + b) (getD-drop i file 1 0) (getD-drop i file 2 0)
+pub length-told : (file : List ℕ) (i : ℕ) → lengthIn (drop i file) ≡ 256 * getD file (i + 1) 0 + getD file (i + 2) 0
+length-told file i = ap₂ (λ (a b : ℕ). 256 * a + b) (getD-drop i file 1 0) (getD-drop i file 2 0)
 
 module _ {A : Type 0} (a z i : ℕ) (file : List ℕ) (x : A) where
   abbrev f : List ℕ
@@ -51,22 +48,22 @@ module _ {A : Type 0} (a z i : ℕ) (file : List ℕ) (x : A) where
   unfolding lengthChecks
   past-head h = passed (less (length f) 3) 14 0 _ x (omega (arith, length-drop i file))
 
-  pub too-short : 3 ≤ length file - i → toldAt file i < a → answer (lengthChecks a z f) x ≡ refusal 15 0
-  too-short h l = past-head h ∙ first-refused wrong 15 0 _ x (inl (omega (arith, told-at file i)))
+  pub too-short : 3 ≤ length file - i → lengthIn f < a → answer (lengthChecks a z f) x ≡ refusal 15 0
+  too-short h l = past-head h ∙ first-refused wrong 15 0 _ x (inl l)
 
-  pub too-long : 3 ≤ length file - i → z < toldAt file i → answer (lengthChecks a z f) x ≡ refusal 15 0
-  too-long h l = past-head h ∙ first-refused wrong 15 0 _ x (inr (omega (arith, told-at file i)))
+  pub too-long : 3 ≤ length file - i → z < lengthIn f → answer (lengthChecks a z f) x ≡ refusal 15 0
+  too-long h l = past-head h ∙ first-refused wrong 15 0 _ x (inr l)
 
-  past-length : 3 ≤ length file - i → a ≤ toldAt file i → toldAt file i ≤ z
+  past-length : 3 ≤ length file - i → a ≤ lengthIn f → lengthIn f ≤ z
       → answer (lengthChecks a z f) x ≡ answer (refuse (ltb (length f) (3 + lengthIn f)) 14 0 ∷ []) x
-  past-length h l m = past-head h ∙ passed wrong 15 0 _ x (omega (arith, told-at file i), omega (arith, told-at file i))
+  past-length h l m = past-head h ∙ passed wrong 15 0 _ x (l, m)
 
-  pub contents-cut : 3 ≤ length file - i → a ≤ toldAt file i → toldAt file i ≤ z → length file - i < 3 + toldAt file i → answer (lengthChecks a z f) x ≡ refusal 14 0
-  contents-cut h l m k = past-length h l m ∙ first-refused (less (length f) (3 + lengthIn f)) 14 0 _ x (omega (arith, told-at file i, length-drop i file))
+  pub contents-cut : 3 ≤ length file - i → a ≤ lengthIn f → lengthIn f ≤ z → length file - i < 3 + lengthIn f → answer (lengthChecks a z f) x ≡ refusal 14 0
+  contents-cut h l m k = past-length h l m ∙ first-refused (less (length f) (3 + lengthIn f)) 14 0 _ x (omega (arith, length-drop i file))
 
-  pub spanned : 3 ≤ length file - i → a ≤ toldAt file i → toldAt file i ≤ z → 3 + toldAt file i ≤ length file - i → answer (lengthChecks a z f) x ≡ result x
+  pub spanned : 3 ≤ length file - i → a ≤ lengthIn f → lengthIn f ≤ z → 3 + lengthIn f ≤ length file - i → answer (lengthChecks a z f) x ≡ result x
   unfolding answer
-  spanned h l m k = past-length h l m ∙ passed (less (length f) (3 + lengthIn f)) 14 0 [] x (omega (arith, told-at file i, length-drop i file))
+  spanned h l m k = past-length h l m ∙ passed (less (length f) (3 + lengthIn f)) 14 0 [] x (omega (arith, length-drop i file))
 
 -- ---- the tag
 
@@ -93,6 +90,27 @@ sort-low t a b c d = rw (ne-eqb t 2 a, ne-eqb t 1 b, ne-eqb t 0x7F c, lt-leb 0x4
 pub sort-high : (t : ℕ) → ¬ (t ≡ 2) → ¬ (t ≡ 1) → ¬ (t ≡ 0x7F) → 0x6F < t → sortOf t ≡ unknown
 unfolding sortOf
 sort-high t a b c d = rw (ne-eqb t 2 a, ne-eqb t 1 b, ne-eqb t 0x7F c, le-leb 0x40 t (omega arith), lt-leb t 0x6F d) refl
+
+-- the tags of a sort
+abbrev pub Tagged : Sort → ℕ → Type 0
+Tagged device t = t ≡ 0x02
+Tagged page t = t ≡ 0x01
+Tagged end t = t ≡ 0x7F
+Tagged passedOver t = (0x40 ≤ t) × (t ≤ 0x6F)
+Tagged unknown t = Unit {0}
+
+pub tagged : (t : ℕ) → Tagged (sortOf t) t
+unfolding sortOf
+tagged t = go (eqb t 0x02) (eqb t 0x01) (eqb t 0x7F) (leb 0x40 t) (leb t 0x6F) refl refl refl refl refl
+  where
+    go : (a b c l m : Bool) → eqb t 0x02 ≡ a → eqb t 0x01 ≡ b → eqb t 0x7F ≡ c → leb 0x40 t ≡ l → leb t 0x6F ≡ m
+        → Tagged (cond a device (cond b page (cond c end (cond (l && m) passedOver unknown)))) t
+    go true b c l m ea eb ec el em = eqb-true t 0x02 ea
+    go false true c l m ea eb ec el em = eqb-true t 0x01 eb
+    go false false true l m ea eb ec el em = eqb-true t 0x7F ec
+    go false false false true true ea eb ec el em = (leb-true 0x40 t el, leb-true t 0x6F em)
+    go false false false true false ea eb ec el em = tt
+    go false false false false m ea eb ec el em = tt
 
 -- ---- tag and place
 

@@ -53,6 +53,12 @@ module _ {A : Type 0} (s : ℕ) (f : List ℕ) (x : A) where
       (taken (itself (isUnknown t)) 15 0 _ x x (taken (opposite (inPlace t s)) 15 0 (lengthChecks (least t) (most t) f) x x (length-taken (least t) (most t) f x x))) .1
       (ne-eqb (length f) 0 (λ q. omega (arith, h .there)), (h .known, (h .place, (omega (arith, h .there), (h .from, h .to), h .there, refl))))
 
+-- a field that was read is whole, and it is the one at its offset
+pub read-whole : (file : List ℕ) (i s : ℕ) (f : Field) → fieldAt file i s ≡ result f
+    → Sound s (drop i file) × (f ≡ fieldOf (i + 3 + lengthIn (drop i file)) (kindAt (sortIn (drop i file)) file i))
+unfolding fieldAt
+read-whole file i s f e = field-sound s (drop i file) (fieldOf (i + 3 + lengthIn (drop i file)) (kindAt (sortIn (drop i file)) file i)) f e
+
 -- the sort of a kind
 abbrev pub kindSort : FieldKind → Sort
 kindSort (Device d) = device
@@ -111,8 +117,7 @@ module _ (file : List ℕ) (i s d : ℕ) (P : List ℕ) (w : Stands file i s d P
   -- a field that was read
   module _ (n : ℕ) (k : FieldKind) (e : fieldAt file i s ≡ result (fieldOf n k)) where
     sound : Sound s g × (fieldOf n k ≡ fieldOf (i + 3 + lengthIn g) (kindAt (sortIn g) file i))
-    unfolding fieldAt
-    sound = field-sound s g (fieldOf (i + 3 + lengthIn g) (kindAt (sortIn g) file i)) (fieldOf n k) e
+    sound = read-whole file i s (fieldOf n k) e
 
     abbrev ok : Sound s g
     ok = sound .0
@@ -155,7 +160,7 @@ module _ (file : List ℕ) (i s d : ℕ) (P : List ℕ) (w : Stands file i s d P
           still = omega (arith, further .0);
         }
 
-    pub after-device : (x : ℕ) → k ≡ Device x → Stands file n (s + 1) x P
+    pub after-device : (x : ℕ) → k ≡ Device x → Stands file n (s + 1) x P × (s ≡ 0)
     unfolding nextRead inPlace least most kindAt
     after-device x q =
         let t : sortIn g ≡ device = sort-is ∙ ap kindSort q in
@@ -165,18 +170,20 @@ module _ (file : List ℕ) (i s d : ℕ) (P : List ℕ) (w : Stands file i s d P
         let four : lengthIn g ≡ 4 = omega arith in
         let kd : k ≡ Device (number (bits (take 4 (drop (i + 3) file)))) = kind-is ∙ ap (λ (u : Sort). kindAt u file i) t in
         let v : x ≡ number (bits (take 4 (drop (i + 3) file))) = cc in
-        let c : contentsIn g ≡ take 4 (drop (i + 3) file) = ap₂ (λ (j : ℕ) (l : List ℕ). take j l) four (drop-drop 3 i file) in
-        record {
-          turns = went .left-turns;
-          left =
-              ap₂ (λ (a b : ℕ). fieldsRead (went .left-turns) a b P (drop n file)) (add-one s) (v ∙ ap (λ (l : List ℕ). number (bits l)) (sym c))
-              ∙ ap (λ (u : Sort). nextRead (fieldsRead (went .left-turns)) u s d P (contentsIn g) (drop n file)) (sym t)
-              ∙ went .gone;
-          enough = went .still;
-          within = further .1;
-          few = omega arith;
-          full = omega (arith, w .full);
-        }
+        let c : contentsIn g ≡ take 4 (drop (i + 3) file) = ap₂ (λ (j : ℕ) (l : List ℕ). take j l) four (drop-drop 3 i file) in (
+          record {
+            turns = went .left-turns;
+            left =
+                ap₂ (λ (a b : ℕ). fieldsRead (went .left-turns) a b P (drop n file)) (add-one s) (v ∙ ap (λ (l : List ℕ). number (bits l)) (sym c))
+                ∙ ap (λ (u : Sort). nextRead (fieldsRead (went .left-turns)) u s d P (contentsIn g) (drop n file)) (sym t)
+                ∙ went .gone;
+            enough = went .still;
+            within = further .1;
+            few = omega arith;
+            full = omega (arith, w .full);
+          },
+          z,
+        )
 
     pub record Paged (from : ℕ) : Type 0 where
       pub after : Stands file n (s + 1) d (P ++ take 256 (drop from file))

@@ -8,7 +8,7 @@ use transfer::MOST_PAGES;
 use transfer::PAGE_BYTES;
 use transfer::PAGE_TAG;
 ghost use mathlib.Core.Path.{_≡_};
-ghost use Prim.Native.Nat.{_+_, _≤_};
+ghost use Prim.Native.Nat.{_+_, _^_, _≤_, _<_};
 ghost use lib.ListN.{length, take, drop};
 ghost use Rattle.cells.specs.Cells.{number};
 ghost use Rattle.cells.specs.Bytes.{bits};
@@ -46,6 +46,17 @@ pub enum Span {
     OtherLength,
 }
 
+// The length that the head of the field at byte `at` tells.
+pub fn length_at(file: &[u8], at: usize) -> usize
+    requires { ⌜ at + 3 ≤ length (now file) ⌝ }
+    ensures told { λ r. ⌜ r ≡ lengthIn (drop at (now (file .entry))) ⌝ }
+    ensures few { λ r. ⌜ r < 2 ^ 16 ⌝ }
+{
+    let high = file[at + 1] as usize;
+    let low = file[at + 2] as usize;
+    256 * high + low
+}
+
 // The span of the field at byte `at`, whose length must be from `least` to `most`.
 fn span_of(file: &[u8], at: usize, least: usize, most: usize) -> Span
     requires { ⌜ at ≤ length (now file) ⌝ }
@@ -54,9 +65,7 @@ fn span_of(file: &[u8], at: usize, least: usize, most: usize) -> Span
     if file.len() - at < 3 {
         return Span::Missing;
     }
-    let high = file[at + 1] as usize;
-    let low = file[at + 2] as usize;
-    let n = 256 * high + low;
+    let n = length_at(file, at);
     if n < least {
         return Span::OtherLength;
     }

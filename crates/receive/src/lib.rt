@@ -8,7 +8,9 @@ mod fields;
 use cells::copy_page;
 use fields::FieldKind;
 use fields::FieldRead;
+use fields::length_at;
 use fields::read_field;
+use transfer::PAGE_TAG;
 use transfer::START;
 ghost use mathlib.Core.Bool.{not};
 ghost use mathlib.Core.Path.{_≡_};
@@ -96,43 +98,21 @@ fn judge(file: &[u8]) -> FileRead
     }
 }
 
-// Copies the n pages of a file that was judged to the start of the output.
+// Copies the n pages of a file that was judged to the start of the output: its fields are in order up to the last page, so that their tags and
+// lengths are enough.
 fn copy_pages(out: &mut [u8], file: &[u8], n: usize)
     requires { ⌜ (2 ≤ length (now file)) × (256 * n ≤ length (now out)) × Counts n (fieldsTold (now file)) ⌝ }
     ensures { λ _. ⌜ now (out .exit) ≡ sets (now (out .entry)) 0 (pagesTold (fieldsTold (now (file .entry)))) ⌝ }
 {
     let mut at = 2;
-    let mut seen = 0;
-    while seen <= n {
-        let r = read_field(file, at, seen);
-        match r {
-            FieldRead::Cut => {
-                return;
-            }
-            FieldRead::Wrong => {
-                return;
-            }
-            FieldRead::Whole(f) => {
-                let next = f.next;
-                let kind = f.kind;
-                match kind {
-                    FieldKind::End => {
-                        return;
-                    }
-                    FieldKind::Device(_) => {
-                        seen += 1;
-                        at = next;
-                    }
-                    FieldKind::Page(from) => {
-                        copy_page(out, 256 * (seen - 1), file, from);
-                        seen += 1;
-                        at = next;
-                    }
-                    FieldKind::Skipped => {
-                        at = next;
-                    }
-                }
-            }
+    let mut copied = 0;
+    while copied < n {
+        let tag = file[at];
+        let from = at + 3;
+        at = from + length_at(file, at);
+        if tag == PAGE_TAG {
+            copy_page(out, 256 * copied, file, from);
+            copied += 1;
         }
     }
 }

@@ -84,7 +84,7 @@ loop-again : tie.Need-loop-again Inv-loop μ-loop
 loop-again c =
     let got = c .before .before .before in
     let l = got .before .before .before .before .loop in
-    (_, after-device _ _ _ _ _ (l .inv .1) _ _ (field-is got) _ (c .before .kind .given .1))
+    (_, after-device _ _ _ _ _ (l .inv .1) _ _ (field-is got) _ (c .before .kind .given .1) .0)
 
 enum-told-4 : tie.Need-enum-told-4 Inv-loop μ-loop
 enum-told-4 c = search needs
