@@ -14,8 +14,9 @@ use Rattle.answer.proofs.Tells.{less, first-refused, passed}
 use Rattle.receive.specs.Grammar.{Holds}
 use Rattle.receive.specs.Faults.{Broken}
 use Rattle.receive.specs.Read.{andThen, Told, counted, fileTold, fieldsTold, wrongStart, pagesTold, readFileAnswer, readFileLeaves}
+use Rattle.receive.proofs.Judging.{not-a-result}
 use Rattle.receive.proofs.Copying.{whole-pages}
-use Rattle.receive.proofs.Grammar.{told-holds, holds-told, not-a-result}
+use Rattle.receive.proofs.Grammar.{told-holds, holds-told}
 use Rattle.receive.proofs.Faults.{broken-refused, refused-broken}
 use Rattle.receive.proofs.Rules.{numbers}
 

@@ -2,18 +2,17 @@
 -- Assumes nothing.
 use mathlib.Core.List.{List, _++_}
 use mathlib.Core.Path.{_≡_, refl, sym, ap, _∙_, subst}
-use Prim.Native.Nat.{ℕ, _*_, _/_, _^_, _≤_, _<_}
+use Prim.Native.Nat.{ℕ, _/_, _^_, _≤_, _<_}
 use native.Mathlib.Omega.{arith}
 use lib.ListN.{length, take, drop}
 use lib.Seq.{take-at}
 use Rattle.cells.specs.Bytes.{atStart}
-use Rattle.answer.specs.Answer.{AnswerOf, result, refuse, answer, after}
+use Rattle.answer.specs.Answer.{result}
 use Rattle.answer.proofs.Chains.{refused-leaves}
 use Rattle.transfer.specs.File.{start, field, fileOf}
 use Rattle.transfer.specs.Answer.{writeFileAnswer, writeFileLeaves}
 use Rattle.transfer.proofs.Claims.{file-writing}
-use Rattle.receive.specs.Grammar.{PassedOver, Fields}
-use Rattle.receive.specs.Read.{Told, fileTold, pagesTold, readFileAnswer, readFileLeaves}
+use Rattle.receive.specs.Read.{fileTold, pagesTold, readFileAnswer, readFileLeaves}
 use Rattle.receive.specs.Claims.{FileRules, FileReading}
 use Rattle.receive.proofs.Faults.{passes}
 use Rattle.receive.proofs.Rules.{one-content, bounded, written, one-fault, numbers, either, not-both}

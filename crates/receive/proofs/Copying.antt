@@ -9,8 +9,8 @@ use borrow.Author.Tests.{ltb-true, ltb-false}
 use lib.Dec.{T, eqb, ltb}
 use lib.ListN.{length, take, drop, getD, length-append, length-drop}
 use lib.Seq.{sets, length-take-le}
-use Rattle.cells.proofs.Storing.{sets-then, sets-atStart}
 use Rattle.cells.specs.Bytes.{atStart}
+use Rattle.cells.proofs.Storing.{sets-then, sets-atStart}
 use Rattle.answer.specs.Answer.{AnswerOf, result, refusal, refuse, answer, after}
 use Rattle.answer.proofs.Tells.{less, first-refused, passed}
 use Rattle.receive.specs.Field.{Sort, device, page, end, passedOver, unknown, sortOf, isUnknown, least, most, sortIn, lengthIn, contentsIn, behind}
@@ -18,7 +18,7 @@ use Rattle.receive.specs.Read.{fieldChecks, fieldOf, kindAt, fieldAt, an
 use Rattle.receive.specs.declared.fields.Field.{Field}
 use Rattle.receive.specs.declared.fields.FieldKind.{FieldKind}
 use Rattle.receive.specs.declared.fields.FieldKind.the-variants.{Page}
-use Rattle.receive.proofs.Judging.{Tagged, tagged, sort-01, sort-at, start-short}
+use Rattle.receive.proofs.Judging.{Tagged, tagged, sort-01, sort-at, start-short, not-a-result}
 use Rattle.receive.proofs.Walking.{Sound, field-sound, read-whole, Stands, stands-first, stands-refused, further, after-device, Paged, after-page, after-skipped, after-end}
 
 -- ---- pages are only added
@@ -30,7 +30,7 @@ pub record Grown (P : List ℕ) (t : Told) : Type 0 where
   pub whole : length more ≡ 256 * pages
 
 end-grown : (b : Bool) (d : ℕ) (P : List ℕ) (t : Told) → cond b (refusal 16 0) (result (d, P)) ≡ result t → Grown P t
-end-grown true d P t e = let z : _≡_ {A = ℕ} 0 1 = cc in absurd (omega arith)
+end-grown true d P t e = not-a-result 16 0 t e
 end-grown false d P t e =
     let q : t ≡ (d, P) = cc in record { more = []; pages = 0; is = ap (λ (u : Told). u .1) q ∙ sym (append-nil P); whole = refl }
 
@@ -44,7 +44,7 @@ page-contents s f h t =
 
 pub grown : (m s d : ℕ) (P f : List ℕ) (t : Told) → fieldsRead m s d P f ≡ result t → Grown P t
 unfolding fieldsRead nextRead afterEnd answer
-grown zero s d P f t e = let z : _≡_ {A = ℕ} 0 1 = cc in absurd (omega arith)
+grown zero s d P f t e = not-a-result 14 0 t e
 grown (suc m) s d P f t e = go (answer (fieldChecks s f) (contentsIn f)) refl (λ s' d' P' f' e'. grown m s' d' P' f' t e') e
   where
     by : (u : Sort) (c r : List ℕ) → sortIn f ≡ u → Sound s f → c ≡ contentsIn f
@@ -61,13 +61,13 @@ grown (suc m) s d P f t e = go (answer (fieldChecks s f) (contentsIn f)) refl (�
         }
     by end c r eu so ec ih h = end-grown (not (eqb (length r) 0)) d P t h
     by passedOver c r eu so ec ih h = ih _ _ P r h
-    by unknown c r eu so ec ih h = let z : _≡_ {A = ℕ} 0 1 = cc in absurd (omega arith)
+    by unknown c r eu so ec ih h = not-a-result 15 0 t h
 
     go : (a : AnswerOf (List ℕ)) → answer (fieldChecks s f) (contentsIn f) ≡ a
         → ((s' d' : ℕ) (P' f' : List ℕ) → fieldsRead m s' d' P' f' ≡ result t → Grown P' t)
         → andThen a (λ (c : List ℕ). nextRead (fieldsRead m) (sortIn f) s d P c (behind f)) ≡ result t → Grown P t
     go (result c) ea ih h = let so = field-sound s f (contentsIn f) c ea in by (sortIn f) c (behind f) refl (so .0) (so .1) ih h
-    go (refusal n i) ea ih h = let z : _≡_ {A = ℕ} 0 1 = cc in absurd (omega arith)
+    go (refusal n i) ea ih h = not-a-result n i t h
 
 -- ---- a file that tells n pages
 
@@ -206,7 +206,7 @@ module _ (file out : List ℕ) (s : wrongStart file ≡ false) where
     where
       go : (x : AnswerOf Told) → fieldsTold file ≡ x → result (d, n) ≡ count x → Counts n x
       go (result t) ex ec = let pr : (d, n) ≡ counted t = cc in let q : n ≡ length (t .1) / 256 = ap (λ (u : ℕ × ℕ). u .1) pr in whole-pages file t ex ∙ ap (λ (k : ℕ). 256 * k) (sym q)
-      go (refusal a b) ex ec = let z : _≡_ {A = ℕ} 0 1 = cc in absurd (omega arith)
+      go (refusal a b) ex ec = not-a-result a b (d, n) (sym ec)
 
   abbrev Left : AnswerOf (ℕ × ℕ) → List ℕ → Type 0
   Left a o = (a ≡ readFileAnswer file out) × (o ≡ readFileLeaves file out)
@@ -223,7 +223,7 @@ module _ (file out : List ℕ) (s : wrongStart file ≡ false) where
   told-refused a b e = leaves (refusal a b) out (go (fieldsTold file) told-is e) refl
     where
       go : (x : AnswerOf Told) → fileTold file ≡ x → refusal a b ≡ count x → refusal a b ≡ readFileAnswer file out
-      go (result t) ex ec = let z : _≡_ {A = ℕ} 0 1 = cc in absurd (omega arith)
+      go (result t) ex ec = not-a-result a b (counted t) ec
       go (refusal c d) ex ec = ec ∙ sym (ap (λ (x : AnswerOf Told). andThen x (λ (t : Told). answer (refuse (ltb (length out) (length (t .1))) 3 0 ∷ []) (counted t))) ex)
 
   answered : (d n : ℕ) → result (d, n) ≡ count (fieldsTold file) → readFileAnswer file out ≡ answer (refuse (ltb (length out) (256 * n)) 3 0 ∷ []) (d, n)
@@ -239,7 +239,7 @@ module _ (file out : List ℕ) (s : wrongStart file ≡ false) where
           ap (λ (x : AnswerOf Told). andThen x (λ (t : Told). answer (refuse (ltb (length out) (length (t .1))) 3 0 ∷ []) (counted t))) ex
           ∙ ap (λ (k : ℕ). answer (refuse (ltb (length out) k) 3 0 ∷ []) (counted t)) l
           ∙ ap₂ (λ (i j : ℕ). answer (refuse (ltb (length out) (256 * n)) 3 0 ∷ []) (i, j)) (sym p) (sym q)
-      go (refusal a b) eg ex ec = let z : _≡_ {A = ℕ} 0 1 = cc in absurd (omega arith)
+      go (refusal a b) eg ex ec = not-a-result a b (d, n) (sym ec)
 
   pub told-short : (d n : ℕ) → result (d, n) ≡ count (fieldsTold file) → length out < 256 * n → Left (refusal 3 0) out
   told-short d n e h = leaves (refusal 3 0) out (sym (answered d n e ∙ first-refused (less (length out) (256 * n)) 3 0 [] (d, n) h)) refl
@@ -259,21 +259,6 @@ module _ (file out : List ℕ) (s : wrongStart file ≡ false) where
 pub start-refused : (file out : List ℕ) → wrongStart file ≡ true → (refusal 14 0 ≡ readFileAnswer file out) × (out ≡ readFileLeaves file out)
 unfolding readFileAnswer fileTold
 start-refused file out e = rw e (refl, refl)
-
--- what the test of the start tells
-pub start-wrong : (file : List ℕ) (r : Bool) → r ≡ not (wrongStart file) → not r ≡ true → wrongStart file ≡ true
-start-wrong file r e h = go (wrongStart file) (ap not (sym e) ∙ h)
-  where
-    go : (b : Bool) → not (not b) ≡ true → b ≡ true
-    go true k = refl
-    go false k = k
-
-pub start-right : (file : List ℕ) (r : Bool) → r ≡ not (wrongStart file) → not r ≡ false → wrongStart file ≡ false
-start-right file r e h = go (wrongStart file) (ap not (sym e) ∙ h)
-  where
-    go : (b : Bool) → not (not b) ≡ false → b ≡ false
-    go true k = k
-    go false k = refl
 
 pub started : (file : List ℕ) → wrongStart file ≡ false → 2 ≤ length file
 unfolding wrongStart

@@ -1,32 +1,31 @@
 -- A file is refused by 14, 15 and 16 exactly where it is broken so; and fields that are passed over change nothing.
 -- Assumes nothing.
-use mathlib.Core.Bool.{Bool, true, false, cond, not, _&&_, _||_}
-use mathlib.Core.List.{List, [], _∷_, _++_, append-assoc, append-nil}
-use mathlib.Core.Logic.{_⊎_, inl, inr, ⊎-elim}
+use mathlib.Core.Bool.{Bool, true, false, cond, not, _||_}
+use mathlib.Core.List.{List, [], _∷_, _++_, append-assoc}
+use mathlib.Core.Logic.{inl, inr, ⊎-elim}
 use mathlib.Core.Path.{_≡_, refl, sym, ap, ap₂, _∙_, subst}
-use Prim.Native.Nat.{ℕ, zero, suc, _+_, _-_, _*_, _^_, _≤_, _<_}
+use Prim.Native.Nat.{ℕ, zero, suc, _+_, _*_, _≤_, _<_}
 use native.Mathlib.Omega.{arith}
-use borrow.Author.Tests.{eqb-true, eqb-false, leb-true, ltb-true, ltb-false, le-leb, le-ltb, ne-eqb}
+use borrow.Author.Tests.{eqb-true, eqb-false, leb-true, ltb-true, ltb-false, le-leb, ne-eqb}
 use lib.Dec.{T, eqb, leb, ltb}
-use lib.ListN.{length, take, drop, getD, length-append, length-drop}
+use lib.ListN.{length, drop, getD, length-append, length-drop}
 use Rattle.cells.specs.Cells.{number}
 use Rattle.cells.specs.Bytes.{bits, highFirst, Bytes}
 use Rattle.cells.proofs.Bytes.{Bytes-take, Bytes-drop, length-bits, length-highFirst}
 use Rattle.cells.proofs.Numbers.{number-below}
 use Rattle.cells.proofs.Tests.{is-true, holds}
-use Rattle.answer.specs.Answer.{AnswerOf, result, refusal, Check, refuse, answer}
-use Rattle.answer.proofs.Chains.{same-refusal}
+use Rattle.answer.specs.Answer.{AnswerOf, result, refusal, answer}
 use Rattle.transfer.specs.File.{start, field, deviceField, endField}
+use Rattle.transfer.proofs.Fields.{length-field}
 use Rattle.receive.specs.Grammar.{PassedOver, Fields, none}
 use Rattle.receive.specs.Grammar as grammar
 use Rattle.receive.specs.Faults.{InPlace, Fault, nothing, no-length, wrong-length, no-contents, trailing, Broken, wrong-start, at-field}
 use Rattle.receive.specs.Faults as faults
-use Rattle.receive.specs.Field.{Sort, device, page, end, passedOver, unknown, sortOf, isUnknown, inPlace, least, most, sortIn, lengthIn, contentsIn, behind}
+use Rattle.receive.specs.Field.{Sort, device, page, end, passedOver, unknown, isUnknown, inPlace, least, most, sortIn, lengthIn, contentsIn, behind}
 use Rattle.receive.specs.Read.{lengthChecks, fieldChecks, andThen, afterEnd, nextRead, fieldsRead, fieldsTold, fileTold, wrongStart, Told}
-use Rattle.transfer.proofs.Fields.{length-field}
-use Rattle.receive.proofs.Judging.{head-cut, too-short, too-long, contents-cut, nothing-there, other-tag, no-place, placed, sort-02, sort-01, sort-7F, page-in, bytes-after}
-use Rattle.receive.proofs.Walking.{Sound, field-sound, sound-field, same-numbers}
-use Rattle.receive.proofs.Grammar.{not-a-result, front-turn, read-passed, as-tagged, as-field, size-is, passed-is, device-forth, device-back, empty, start-there, start-right}
+use Rattle.receive.proofs.Judging.{head-cut, too-short, too-long, contents-cut, nothing-there, other-tag, no-place, placed, sort-02, sort-01, sort-7F, page-in, page-place, bytes-after, not-a-result}
+use Rattle.receive.proofs.Walking.{Sound, field-sound}
+use Rattle.receive.proofs.Grammar.{front-turn, read-passed, as-tagged, as-field, size-is, passed-is, device-forth, device-back, empty, start-there, start-right}
 
 -- ---- from a fault to the refusal
 
@@ -261,15 +260,10 @@ found-fault (suc m) s d P x g n k f b l e =
         go-on (deviceField v) q (ih (suc s) v P (x ++ deviceField v) (behind g) (subst (λ (i : ℕ). Fields (suc i) (x ++ deviceField v)) (sym z) f1) (Bytes-drop (3 + lengthIn g) g b) (left so) h)
     by page et so ih h =
         let c = contentsIn g in
-        let pl : T (leb 1 s && leb s 64) = subst (λ (u : Sort). T (inPlace u s)) et (so .place) in
-        let pp = parts (leb 1 s) (leb s 64) (is-true (leb 1 s && leb s 64) pl) in
+        let pp = page-place s (subst (λ (u : Sort). T (inPlace u s)) et (so .place)) in
         let q : g ≡ field 0x01 c ++ behind g = as-field s g b so 0x01 (as-tagged s g b so page et) in
-        let f1 : Fields (suc s) (x ++ field 0x01 c) = grammar.paged c (size-is s g b so page 256 et (omega arith) (omega arith)) (leb-true 1 s (pp .0)) (leb-true s 64 (pp .1)) f in
+        let f1 : Fields (suc s) (x ++ field 0x01 c) = grammar.paged c (size-is s g b so page 256 et (omega arith) (omega arith)) (pp .0) (pp .1) f in
         go-on (field 0x01 c) q (ih (suc s) d (P ++ c) (x ++ field 0x01 c) (behind g) f1 (Bytes-drop (3 + lengthIn g) g b) (left so) h)
-      where
-        parts : (a c : Bool) → (a && c) ≡ true → (a ≡ true) × (c ≡ true)
-        parts true c w = (refl, w)
-        parts false c w = absurd (subst T (sym w) tt)
     by end et so ih h =
         let w = end-fault (behind g) (d, P) n k h in
         let c : contentsIn g ≡ [] = empty (contentsIn g) (size-is s g b so end 0 et (omega arith) (omega arith)) in

@@ -1,11 +1,11 @@
 -- The reader accepts exactly the files of the grammar, and tells what they hold.
 -- Assumes nothing.
-use mathlib.Core.Bool.{Bool, true, false, cond, not, _&&_, _||_}
+use mathlib.Core.Bool.{Bool, true, false, cond, not, _||_}
 use mathlib.Core.List.{List, [], _∷_, _++_, append-assoc, append-nil}
 use mathlib.Core.Path.{_≡_, refl, sym, ap, ap₂, _∙_, subst}
-use Prim.Native.Nat.{ℕ, zero, suc, _+_, _-_, _*_, _/_, _%_, _^_, _≤_, _<_}
+use Prim.Native.Nat.{ℕ, zero, suc, _+_, _*_, _/_, _%_, _^_, _≤_, _<_}
 use native.Mathlib.Omega.{arith}
-use borrow.Author.Tests.{eqb-true, leb-true, ne-eqb, eq-eqb, le-leb, le-ltb}
+use borrow.Author.Tests.{eqb-true, ne-eqb, le-leb, le-ltb}
 use lib.Dec.{T, eqb, leb}
 use lib.ListN.{length, take, drop, getD, length-append, length-drop, take-append-drop}
 use lib.Seq.{take-at, drop-at, length-take-le}
@@ -16,12 +16,12 @@ use Rattle.cells.proofs.Bytes.{bytes-bits, bits-bytes, length-bits, length-high
 use Rattle.cells.proofs.Tests.{is-true, holds}
 use Rattle.answer.specs.Answer.{AnswerOf, result, refusal, answer}
 use Rattle.transfer.specs.File.{start, head, field, deviceField, endField}
+use Rattle.transfer.proofs.Fields.{head-bytes, length-field}
 use Rattle.receive.specs.Grammar.{PassedOver, After, ended, paged, passed, Before, Holds}
 use Rattle.receive.specs.Grammar as grammar
 use Rattle.receive.specs.Field.{Sort, device, page, end, passedOver, unknown, sortOf, isUnknown, inPlace, least, most, sortIn, lengthIn, contentsIn, behind}
 use Rattle.receive.specs.Read.{fieldChecks, andThen, afterEnd, nextRead, fieldsRead, fieldsTold, fileTold, wrongStart, Told}
-use Rattle.transfer.proofs.Fields.{head-bytes, length-field, field-of}
-use Rattle.receive.proofs.Judging.{Tagged, tagged, sort-02, sort-01, sort-7F, sort-passed, page-in, end-reached}
+use Rattle.receive.proofs.Judging.{Tagged, tagged, sort-02, sort-01, sort-7F, sort-passed, page-in, page-place, end-reached, not-a-result}
 use Rattle.receive.proofs.Walking.{Sound, field-sound, sound-field}
 
 -- ---- a field in front of further bytes
@@ -78,7 +78,7 @@ module _ (tag : ℕ) (c r : List ℕ) (h : length c < 65536) where
 pub read-passed : (tag : ℕ) (c r : List ℕ) → PassedOver tag c → (m s d : ℕ) (P : List ℕ) → fieldsRead (suc m) s d P (field tag c ++ r) ≡ fieldsRead m s d P r
 unfolding nextRead inPlace least most
 read-passed tag c r h m s d P =
-    front-turn tag c r (h .two-bytes) m s d P passedOver (sort-passed tag (h .from-40) (h .to-6F)) refl tt (omega arith) (omega (arith, h .two-bytes))
+    front-turn tag c r (h .two-bytes) m s d P passedOver (sort-passed tag (h .from-40) (omega (arith, h .to-6F))) refl tt (omega arith) (omega (arith, h .two-bytes))
 
 pub read-after : {k : ℕ} {f Q : List ℕ} → After k f Q → (m s d : ℕ) (P : List ℕ) → s + k ≡ 65 → 1 ≤ s → length f ≤ m
     → fieldsRead m s d P f ≡ result (d, P ++ Q)
@@ -166,9 +166,6 @@ module _ (s : ℕ) (f : List ℕ) (b : Bytes f) (so : Sound s f) where
       let g = as-tagged passedOver e in
       record { from-40 = g .0; to-6F = g .1; two-bytes = omega (arith, length-contents s f so) }
 
-pub not-a-result : {A : Type 0} {B : Type 0} (n i : ℕ) (t : A) → _≡_ {A = AnswerOf A} (refusal n i) (result t) → B
-not-a-result n i t e = let z : _≡_ {A = ℕ} 0 1 = cc in absurd (omega arith)
-
 at-end : (r : List ℕ) (t u : Told) → answer (afterEnd r) u ≡ result t → (length r ≡ 0) × (t ≡ u)
 unfolding afterEnd answer
 at-end [] t u e = (refl, cc)
@@ -190,12 +187,7 @@ found-after (suc m) s k d P f t ek b e =
   where
     paging : (j : ℕ) → j ≡ k → Sound (suc s) f → sortIn f ≡ page → Further m d t → fieldsRead m (suc (suc s)) d (P ++ contentsIn f) (behind f) ≡ result t → FoundAfter j d P f t
     paging zero ej so eu ih h =
-        let pl : T (leb 1 (suc s) && leb (suc s) 64) = subst (λ (v : Sort). T (inPlace v (suc s))) eu (so .place) in
-        absurd (omega (arith, leb-true (suc s) 64 (right (leb 1 (suc s)) (leb (suc s) 64) (is-true (leb 1 (suc s) && leb (suc s) 64) pl))))
-      where
-        right : (a c : Bool) → (a && c) ≡ true → c ≡ true
-        right true c q = q
-        right false c q = absurd (subst T (sym q) tt)
+        absurd (omega (arith, page-place (suc s) (subst (λ (v : Sort). T (inPlace v (suc s))) eu (so .place)) .1))
     paging (suc j) ej so eu ih h =
         let q = ih (suc s) j (P ++ contentsIn f) (behind f) (omega arith) (Bytes-drop (3 + lengthIn f) f b) h in
         record {

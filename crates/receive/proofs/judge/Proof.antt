@@ -1,14 +1,13 @@
 -- `receive::judge` meets its contract: before each turn the reader stands at a field. Assumes nothing.
-use mathlib.Core.List.{List, _++_}
-use mathlib.Core.Path.{_≡_, refl, sym, ap, _∙_}
-use Prim.Native.Nat.{ℕ, _+_, _-_, _*_, _/_, _≤_, _<_}
+use mathlib.Core.List.{List}
+use mathlib.Core.Path.{_≡_, sym, ap, _∙_}
+use Prim.Native.Nat.{ℕ, _-_}
 use native.Mathlib.Omega.{arith}
 use borrow.Author.Needs.{needs}
-use lib.ListN.{length, take, drop}
-use Rattle.answer.specs.Answer.{AnswerOf, result, answer}
-use Rattle.receive.specs.Read.{andThen, afterEnd, fieldReadCode, fieldAt, fieldsTold, counted, Told}
-use Rattle.receive.proofs.Judging.{then-result}
-use Rattle.receive.proofs.Walking.{Stands, stands-first, stands-refused, further, after-device, Paged, after-page, after-skipped, after-end, told-end}
+use lib.ListN.{length}
+use Rattle.answer.specs.Answer.{AnswerOf, result}
+use Rattle.receive.specs.Read.{andThen, fieldReadCode, fieldAt, counted, Told}
+use Rattle.receive.proofs.Walking.{Stands, stands-first, stands-refused, further, after-device, after-page, after-skipped, after-end, told-end}
 use Rattle.receive.proofs.judge.Statement.{statement}
 use Rattle.receive.proofs.judge.Tie as tie
 

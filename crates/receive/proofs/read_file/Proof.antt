@@ -1,22 +1,22 @@
 -- `receive::read_file` meets its contract: the start, then the fields, then the output's length, then the copy. Assumes nothing.
-use mathlib.Core.Bool.{Bool, true, false}
-use mathlib.Core.Path.{_≡_, refl, sym, ap, _∙_}
-use Prim.Native.Nat.{ℕ, _+_, _*_, _≤_, _<_}
+use mathlib.Core.Bool.{false}
+use mathlib.Core.Path.{_≡_, sym, ap, _∙_}
 use native.Mathlib.Omega.{arith}
-use Rattle.receive.specs.Read.{wrongStart, fileReadCode}
-use Rattle.receive.proofs.Copying.{counts, told-refused, told-short, told-done, start-refused, start-wrong, start-right, started}
 use borrow.Author.Needs.{needs}
+use Rattle.receive.specs.Read.{wrongStart, fileReadCode}
+use Rattle.receive.proofs.Judging.{start-told}
+use Rattle.receive.proofs.Copying.{counts, told-refused, told-short, told-done, start-refused, started}
 use Rattle.receive.proofs.read_file.Statement.{statement}
 use Rattle.receive.proofs.read_file.Tie as tie
 
 right : (c : tie.Else1) → wrongStart (c .before .before .before .before .args .file .now) ≡ false
-right c = start-right _ (c .before .starts .result) (c .before .starts .ensures) (c .if1 .left)
+right c = start-told _ (c .before .starts .result) (c .before .starts .ensures) ∙ c .if1 .left
 
 starts-requires : tie.Need-starts-requires
 starts-requires c κs = search needs
 
 returns : tie.Need-returns
-returns c = start-refused _ _ (start-wrong _ (c .before .starts .result) (c .before .starts .ensures) (c .if1 .taken))
+returns c = start-refused _ _ (start-told _ (c .before .starts .result) (c .before .starts .ensures) ∙ c .if1 .taken)
 
 judge-requires : tie.Need-judge-requires
 judge-requires c κs = started _ (right c)

@@ -1,8 +1,8 @@
 -- `receive::starts` meets its contract. Assumes nothing.
-use borrow.Author.Needs.{needs}
-use mathlib.Core.Bool.{Bool, not}
+use mathlib.Core.Bool.{not}
+use mathlib.Core.Path.{sym, ap}
 use native.Mathlib.Omega.{arith}
-use mathlib.Core.Path.{_≡_, sym, ap}
+use borrow.Author.Needs.{needs}
 use Rattle.receive.proofs.Judging.{start-short, start-first, start-second}
 use Rattle.receive.proofs.starts.Statement.{statement}
 use Rattle.receive.proofs.starts.Tie as tie

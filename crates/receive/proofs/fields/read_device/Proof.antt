@@ -1,20 +1,18 @@
 -- `fields::read_device` meets its contract. Assumes nothing.
-use mathlib.Core.List.{List}
-use mathlib.Core.Path.{_≡_, refl, sym, ap, _∙_}
-use Prim.Native.Nat.{ℕ, _+_, _≤_}
+use mathlib.Core.Path.{_≡_, sym, ap, _∙_}
+use Prim.Native.Nat.{ℕ, _+_}
 use native.Mathlib.Omega.{arith}
+use borrow.Author.Needs.{needs}
 use lib.ListN.{take, drop}
 use Rattle.cells.specs.Cells.{number}
 use Rattle.cells.specs.Bytes.{bits}
 use Rattle.cells.proofs.Runs.{window-lt}
-use Rattle.receive.specs.declared.fields.Field.{Field}
 use Rattle.answer.specs.Answer.{result}
 use Rattle.receive.specs.Read.{andThen, spanCode, fieldOf}
-use Rattle.receive.specs.declared.fields.FieldKind.{FieldKind}
+use Rattle.receive.specs.declared.fields.Field.{Field}
 use Rattle.receive.specs.declared.fields.FieldKind.the-variants.{Device}
 use Rattle.receive.specs.declared.fields.Span.{Span}
 use Rattle.receive.proofs.Judging.{carried, four-there}
-use borrow.Author.Needs.{needs}
 use Rattle.receive.proofs.fields.read_device.Statement.{statement}
 use Rattle.receive.proofs.fields.read_device.Tie as tie
 

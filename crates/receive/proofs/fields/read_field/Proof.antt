@@ -1,12 +1,10 @@
 -- `fields::read_field` meets its contract: each tag goes to what answers for it. Assumes nothing.
-use mathlib.Core.Path.{_≡_, refl, sym, ap, _∙_}
-use Prim.Native.Nat.{ℕ, _+_, _≤_}
-use native.Mathlib.Omega.{arith}
-use borrow.Author.Tests.{eq-eqb, ne-eqb, le-leb, lt-leb}
-use Rattle.receive.specs.Field.{device, page, end, passedOver, unknown, sortOf, inPlace, least, most}
-use Rattle.receive.specs.Read.{kindAt, fieldAt, fieldOf}
-use Rattle.receive.proofs.Judging.{nothing-there, other-tag, no-place, field-there, field-spanned, sort-02, sort-01, sort-7F, sort-passed, sort-low, sort-high, page-late, page-in, end-in}
+use mathlib.Core.Path.{refl, sym, _∙_}
+use borrow.Author.Tests.{eq-eqb, ne-eqb}
 use borrow.Author.Needs.{needs}
+use Rattle.receive.specs.Field.{device, page, end, passedOver, inPlace, least, most}
+use Rattle.receive.specs.Read.{kindAt, fieldAt}
+use Rattle.receive.proofs.Judging.{nothing-there, other-tag, no-place, field-there, field-spanned, sort-02, sort-01, sort-7F, sort-passed, sort-low, sort-high, page-late, page-in, end-in}
 use Rattle.receive.proofs.fields.read_field.Statement.{statement}
 use Rattle.receive.proofs.fields.read_field.Tie as tie
 
@@ -98,7 +96,7 @@ returns-9 c =
     let sp = c .before in
     let at = sp .before .before .before in
     let there = at .before .before in
-    field-spanned _ _ _ passedOver 0 65535 _ (sp .span-of3 .result) (c .read-span3 .result) (there .if1 .left) (sort-passed _ (omega arith) (omega arith)) refl refl refl refl refl (sp .span-of3 .ensures) (c .read-span3 .ensures)
+    field-spanned _ _ _ passedOver 0 65535 _ (sp .span-of3 .result) (c .read-span3 .result) (there .if1 .left) (sort-passed _ (sp .before .before .if6 .left) (sp .before .if7 .taken)) refl refl refl refl refl (sp .span-of3 .ensures) (c .read-span3 .ensures)
 
 returns-10 : tie.Need-returns-10
 unfolding fieldAt inPlace least most kindAt
@@ -113,7 +111,7 @@ returns-11 c =
     let at = c .before .before in
     let there = at .before .before in
     let n = at .match .rest in
-    sym (other-tag _ _ _ _ (there .if1 .left) (sort-high _ (n .0 .0 .1) (n .0 .1) (n .1) (omega arith)))
+    sym (other-tag _ _ _ _ (there .if1 .left) (sort-high _ (n .0 .0 .1) (n .0 .1) (n .1) (c .if7 .left)))
 
 pub read-field-spec : {M : Type 1} → statement M
 read-field-spec =

@@ -1,10 +1,10 @@
 -- `fields::read_span` meets its contract. Assumes nothing.
 use mathlib.Core.Path.{sym, ap}
 use Prim.Native.Nat.{ℕ}
+use borrow.Author.Needs.{needs}
 use Rattle.answer.specs.Answer.{result}
 use Rattle.receive.specs.Read.{andThen, spanCode, fieldOf}
 use Rattle.receive.specs.declared.fields.Span.{Span}
-use borrow.Author.Needs.{needs}
 use Rattle.receive.proofs.fields.read_span.Statement.{statement}
 use Rattle.receive.proofs.fields.read_span.Tie as tie
 
