@@ -1,12 +1,13 @@
 // Replays calls of the library from standard input, and writes what each one gives to standard output. The independent program under
 // tests/second makes both files.
 //
-// A call is a header of 13 bytes, then the page or pages and the other buffer as they are before the call:
+// A call is a header of 13 bytes, then the page, the pages or the file, and the other buffer, as they are before the call:
 //
 //     byte 0         the entry: 0 encode word, 1 decode word, 2 fill word, 3 word capacity, 4 write first, 5 read first,
-//                    6 page capacity, 7 write second, 8 read second, 9 write file, 10 fill page, 11 write Inspect, 12 read Inspect
+//                    6 page capacity, 7 write second, 8 read second, 9 write file, 10 fill page, 11 write Inspect, 12 read Inspect,
+//                    13 read file
 //     bytes 1 to 8   the argument of a word entry, or write file's device number
-//     bytes 9, 10    the length of the page or pages, at most 1,024
+//     bytes 9, 10    the length of the page, the pages or the file, at most 1,024
 //     bytes 11, 12   the length of the other buffer (data, output or record), at most 1,024
 //
 // with the high byte of each number first. Its line is the call's index from 0, the entry, the refusal's number (0 for none) and the result
@@ -34,7 +35,7 @@ fn answer_word(entry: u8, argument: u64) -> u64 {
     }
 }
 
-// The answer of an entry on a page or pages.
+// The answer of an entry on a page, pages or a file.
 fn answer_page(entry: u8, argument: u64, page: &mut [u8], other: &mut [u8]) -> u64 {
     match entry {
         4 => wom::wom_write_first(page, other),
@@ -45,7 +46,8 @@ fn answer_page(entry: u8, argument: u64, page: &mut [u8], other: &mut [u8]) -> u
         9 => wom::wom_write_file(low_half(argument), page, other),
         10 => wom::wom_fill_page(page),
         11 => wom::wom_write_inspect(page, other),
-        _ => wom::wom_read_inspect(page, other),
+        12 => wom::wom_read_inspect(page, other),
+        _ => wom::wom_read_file(page, other),
     }
 }
 
@@ -72,7 +74,7 @@ fn tell_bytes(buffer: &[u8]) {
     }
 }
 
-// Reads the buffers of an entry on a page or pages, makes the call and writes its line but for the end; whether they were there.
+// Reads the buffers of an entry on a page, pages or a file, makes the call and writes its line but for the end; whether they were there.
 fn replay_page(index: u32, entry: u8, argument: u64, page: &mut [u8], other: &mut [u8]) -> bool {
     if !read_whole(page) {
         return false;
@@ -83,7 +85,7 @@ fn replay_page(index: u32, entry: u8, argument: u64, page: &mut [u8], other: &mu
     tell_answer(index, entry, answer_page(entry, argument, page, other));
     match entry {
         4 | 7 | 10 | 11 => tell_bytes(page),
-        5 | 8 | 9 | 12 => tell_bytes(other),
+        5 | 8 | 9 | 12 | 13 => tell_bytes(other),
         _ => {}
     }
     true
@@ -97,7 +99,7 @@ fn replay(index: u32, header: &[u8; 13]) -> bool {
         tell_answer(index, entry, answer_word(entry, argument));
         return true;
     }
-    if 12 < entry {
+    if 13 < entry {
         return false;
     }
     let lengths = cells::four_bytes(header, 9);
