@@ -85,7 +85,7 @@ end-counts n d P r x h e = go (not (eqb (length r) 0)) (subst (Counts n) (sym e)
     go false k = k
 
 -- before the field at offset i the first k pages are put
-pub record Copies (file out₀ : List ℕ) (n : ℕ) (out : List ℕ) (i k : ℕ) : Type 0 where
+pub record Copies (file out₀ out : List ℕ) (i k : ℕ) : Type 0 where
   pub s : ℕ
   pub d : ℕ
   pub P : List ℕ
@@ -94,10 +94,10 @@ pub record Copies (file out₀ : List ℕ) (n : ℕ) (out : List ℕ) (i k : ℕ
   pub same : length out ≡ length out₀
   pub count : k ≡ s - 1
 
-pub copies-first : (file out : List ℕ) (n : ℕ) → 2 ≤ length file → Copies file out n out 2 0
-copies-first file out n h = record { s = 0; d = 0; P = []; stands = stands-first file h; put = refl; same = refl; count = refl }
+pub copies-first : (file out : List ℕ) → 2 ≤ length file → Copies file out out 2 0
+copies-first file out h = record { s = 0; d = 0; P = []; stands = stands-first file h; put = refl; same = refl; count = refl }
 
-module _ (file out₀ : List ℕ) (n : ℕ) (out : List ℕ) (i k : ℕ) (c : Copies file out₀ n out i k) (h : Counts n (fieldsTold file)) where
+module _ (file out₀ out : List ℕ) (n i k : ℕ) (c : Copies file out₀ out i k) (h : Counts n (fieldsTold file)) where
   -- all pages are there
   pub copies-last : n ≤ k → out ≡ sets out₀ 0 (pagesTold (fieldsTold file))
   copies-last l = go (fieldsTold file) h refl
@@ -146,10 +146,10 @@ module _ (file out₀ : List ℕ) (n : ℕ) (out : List ℕ) (i k : ℕ) (c : Co
   page-there e = paged e .room
 
   pub copies-page : (o : List ℕ) (r : ℕ) → r ≡ lengthIn g → getD file i 0 ≡ 0x01 → o ≡ sets out (256 * k) (take 256 (drop (i + 3) file))
-      → length o ≡ length out → Copies file out₀ n o (i + 3 + r) (k + 1)
+      → length o ≡ length out → Copies file out₀ o (i + 3 + r) (k + 1)
   copies-page o r er e eo es =
       let p = take 256 (drop (i + 3) file) in
-      subst (λ (j : ℕ). Copies file out₀ n o (i + 3 + j) (k + 1)) (sym er)
+      subst (λ (j : ℕ). Copies file out₀ o (i + 3 + j) (k + 1)) (sym er)
       record {
         s = c .s + 1;
         d = c .d;
@@ -161,11 +161,11 @@ module _ (file out₀ : List ℕ) (n : ℕ) (out : List ℕ) (i k : ℕ) (c : Co
       }
 
   -- it is another one; the end is not met before all pages are copied
-  pub copies-other : (r : ℕ) → r ≡ lengthIn g → ¬ (getD file i 0 ≡ 0x01) → k < n → Copies file out₀ n out (i + 3 + r) k
+  pub copies-other : (r : ℕ) → r ≡ lengthIn g → ¬ (getD file i 0 ≡ 0x01) → k < n → Copies file out₀ out (i + 3 + r) k
   unfolding kindAt
-  copies-other r er ne l = subst (λ (j : ℕ). Copies file out₀ n out (i + 3 + j) k) (sym er) (go (sortIn g) refl)
+  copies-other r er ne l = subst (λ (j : ℕ). Copies file out₀ out (i + 3 + j) k) (sym er) (go (sortIn g) refl)
     where
-      go : (t : Sort) → sortIn g ≡ t → Copies file out₀ n out next k
+      go : (t : Sort) → sortIn g ≡ t → Copies file out₀ out next k
       go device e =
           let w = after-device file i (c .s) (c .d) (c .P) (c .stands) next kind field-is _ (ap (λ (u : Sort). kindAt u file i) e) in
           record { s = c .s + 1; d = _; P = c .P; stands = w .0; put = c .put; same = c .same; count = omega (arith, c .count, w .1) }

@@ -8,13 +8,13 @@ use Rattle.receive.proofs.copy_pages.Statement.{statement}
 use Rattle.receive.proofs.copy_pages.Tie as tie
 
 abbrev Inv-loop : tie.InvT-loop
-Inv-loop out₀ file n at₀ copied₀ out at copied = Copies file out₀ n out at copied
+Inv-loop out₀ file n at₀ copied₀ out at copied = Copies file out₀ out at copied
 
 abbrev μ-loop : tie.MeasureT-loop
 μ-loop out₀ file n at₀ copied₀ out at copied = length file - at
 
 loop-holds : tie.Need-loop-holds Inv-loop μ-loop
-loop-holds c = copies-first _ _ _ (c .before .before .pre .0)
+loop-holds c = copies-first _ _ (c .before .before .pre .0)
 
 -- the field at the loop's offset is whole
 within : (c : tie.In-loop Inv-loop μ-loop)
