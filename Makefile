@@ -9,8 +9,8 @@ DIST = wom-$(VERSION)
 help: ## this list
 	@awk -F ':.*## ' '/^[a-z]+:.*## / { printf "make %-13s %s\n", $$1, $$2 }' Makefile
 
-# A page's life in a logger, then the listing and the gain sheet of the pages that it leaves, a page's life on chips of both page sizes, and
-# the file that carries the logger's pages away.
+# A page's life in a logger, then the listing and the gain sheet of the pages that it leaves, a page's life on chips of both page sizes, the
+# file that carries the logger's seven whole pages away, and the same pages at the office, read from that file.
 demo: archive ## proves the library, and shows a page's life on a model of the part: about two minutes
 	@echo 'proving and compiling the programs listing and gain (target/listing.log, target/gain.log)'
 	@rt check listing >target/listing.log 2>&1 || { cat target/listing.log; exit 1; }
@@ -19,6 +19,7 @@ demo: archive ## proves the library, and shows a page's life on a model of the p
 	$(CC99) -o target/demo/logger examples/logger.c target/staticlib/libwom.a
 	$(CC99) -o target/demo/two_chips examples/two_chips.c target/staticlib/libwom.a
 	$(CC99) -o target/demo/carry examples/carry.c target/staticlib/libwom.a
+	$(CC99) -o target/demo/office examples/office.c target/staticlib/libwom.a
 	@echo
 	@target/demo/logger target/demo/pages.bin
 	@printf '\nThe listing of target/demo/pages.bin (target/bin/listing reads pages from its standard input):\n'
@@ -29,6 +30,12 @@ demo: archive ## proves the library, and shows a page's life on a model of the p
 	@target/demo/two_chips
 	@echo
 	@target/demo/carry 0x12345678 target/demo/pages.bin target/demo/lift.bin
+	@echo
+	@target/demo/office target/demo/lift.bin target/demo/office.bin
+	@head -c 1792 target/demo/pages.bin | cmp - target/demo/office.bin
+	@echo '   They are the 7 whole pages of target/demo/pages.bin, byte for byte.'
+	@printf '\nThe pages at the office, listed:\n'
+	@target/bin/listing <target/demo/office.bin
 
 test: ## the gate: removes target/, proves every crate, tries the must-fail edits, runs the tests: about 26 minutes
 	.ci/run

@@ -1,10 +1,10 @@
 /*
- * Test of wom.h: its constants and functions, and twelve of its thirteen
+ * Test of wom.h: its constants and functions, and twelve of its fourteen
  * entries, each on document 01's values and on calls that it refuses by each of
  * its numbers, on pages of 256 and of 512 bytes. Every expectation is a
  * literal. The pulses of a page's fill are compared with the cells, counted
- * before and after it, as well. The thirteenth entry, wom_write_file, is tested
- * by file.c.
+ * before and after it, as well. The other two entries are tested by file.c,
+ * wom_write_file, and by reading.c, wom_read_file.
  *
  *     header               all checks; exit status 0 when none is wrong, else 1
  *     header plant KIND    the same with one wrong expectation of that kind, so
@@ -57,6 +57,9 @@ static const struct {
     CONSTANT(WOM_REFUSED_NEIGHBOURS, 11),
     CONSTANT(WOM_REFUSED_SUM, 12),
     CONSTANT(WOM_REFUSED_PAGES_LENGTH, 13),
+    CONSTANT(WOM_REFUSED_FILE_CUT, 14),
+    CONSTANT(WOM_REFUSED_FILE_FIELD, 15),
+    CONSTANT(WOM_REFUSED_FILE_TAIL, 16),
     CONSTANT(WOM_WORD_CELLS, 46),
     CONSTANT(WOM_PAGE_BYTES, 256),
     CONSTANT(WOM_LARGE_PAGE_BYTES, 512),
@@ -91,11 +94,12 @@ static const struct {
     CONSTANT(WOM_STATE_SECOND, 7),
     CONSTANT(WOM_STATE_INSPECT, 9),
     CONSTANT(WOM_FILE_PAGES_MAX, 64),
+    CONSTANT(sizeof(uint8_t[WOM_FILE_PAGES_MAX * WOM_PAGE_BYTES]), 16384),
     CONSTANT(WOM_FILE_BYTES(0), 12),
     CONSTANT(WOM_FILE_BYTES(1), 271),
     CONSTANT(WOM_FILE_BYTES(1 + 1), 530),
     CONSTANT(sizeof(uint8_t[WOM_FILE_BYTES(WOM_FILE_PAGES_MAX)]), 16588),
-    CONSTANT(WOM_VERSION, 70000),
+    CONSTANT(WOM_VERSION, 70100),
 };
 
 static void check_constants(void)
@@ -126,7 +130,10 @@ static const struct {
     {11, "neighbours"},
     {12, "sum"},
     {13, "pages length"},
-    {14, "unknown refusal"},
+    {14, "file cut"},
+    {15, "file field"},
+    {16, "file tail"},
+    {17, "unknown refusal"},
     {255, "unknown refusal"},
     {4294967295u, "unknown refusal"},
 };
@@ -145,7 +152,7 @@ static void check_texts(void)
         check_text(wom_refusal_name(texts[i].number), texts[i].expected);
     }
     in_case("WOM_VERSION_STRING", WOM_VERSION);
-    check_text(WOM_VERSION_STRING, "7.0.0");
+    check_text(WOM_VERSION_STRING, "7.1.0");
 }
 
 static const struct {
@@ -162,6 +169,8 @@ static const struct {
     {UINT64_C(0x08000000000007bc), 8, 1980},
     {UINT64_C(0x0800000000000f78), 8, 3960},
     {UINT64_C(0x0d00000000000000), 13, 0},
+    {UINT64_C(0x1000000000000000), 16, 0},
+    {UINT64_C(0x0000004012345678), 0, UINT64_C(0x4012345678)},
     {UINT64_C(0x8000000000000000), 128, 0},
     {UINT64_MAX, 255, UINT64_C(0x00ffffffffffffff)},
 };
@@ -211,6 +220,41 @@ static void check_filled_parts(void)
         check_number("parts", wom_filled_word(answer), filled_answers[i].word);
         check_number("parts", wom_filled_pulses(answer),
                      filled_answers[i].pulses);
+    }
+}
+
+/* Answers as of a file's reading. A refusal's number is in neither part. */
+static const struct {
+    uint64_t answer;
+    uint32_t device;
+    unsigned pages;
+} file_answers[] = {
+    {0, 0, 0},
+    {UINT64_C(0x0000000000000001), 1, 0},
+    {UINT64_C(0x0000000080000000), 0x80000000, 0},
+    {UINT64_C(0x00000000ffffffff), 0xffffffff, 0},
+    {UINT64_C(0x0000000100000000), 0, 1},
+    {UINT64_C(0x0000004000000000), 0, 64},
+    {UINT64_C(0x0000004012345678), 0x12345678, 64},
+    {UINT64_C(0x00000007ffffffff), 0xffffffff, 7},
+    {UINT64_C(0x0080000000000000), 0, 0x800000},
+    {UINT64_C(0x00ffffff00000000), 0, 0xffffff},
+    {UINT64_C(0x0100000000000000), 0, 0},
+    {UINT64_C(0x1000000000000000), 0, 0},
+    {UINT64_C(0xff00000000000000), 0, 0},
+    {UINT64_MAX, 0xffffffff, 0xffffff},
+};
+
+static void check_file_parts(void)
+{
+    size_t i;
+
+    for (i = 0; i < COUNT(file_answers); i++) {
+        uint64_t answer = file_answers[i].answer;
+
+        in_case("answer of a file's reading", answer);
+        check_number("parts", wom_file_device(answer), file_answers[i].device);
+        check_number("parts", wom_file_pages(answer), file_answers[i].pages);
     }
 }
 
@@ -1416,6 +1460,7 @@ int main(int argc, char **argv)
     check_texts();
     check_parts();
     check_filled_parts();
+    check_file_parts();
     check_values();
     check_fills();
     check_refused_words();

@@ -65,7 +65,9 @@ static size_t equal_bytes(const uint8_t *came, const uint8_t *expected,
 {
     size_t i = 0;
 
-    while (i < length && came[i] == expected[i])
+    if (memcmp(came, expected, length) == 0)
+        return length;
+    while (came[i] == expected[i])
         i++;
     return i;
 }
