@@ -22,6 +22,9 @@ impl Refusal {
     pub const NEIGHBOURS: Refusal = Refusal::plain(11);
     pub const SUM: Refusal = Refusal::plain(12);
     pub const PAGES_LENGTH: Refusal = Refusal::plain(13);
+    pub const FILE_CUT: Refusal = Refusal::plain(14);
+    pub const FILE_FIELD: Refusal = Refusal::plain(15);
+    pub const FILE_TAIL: Refusal = Refusal::plain(16);
 
     const fn plain(number: u8) -> Refusal {
         Refusal { number, index: 0 }
@@ -64,6 +67,24 @@ pub fn fill_result(filled: u64, pulses: usize) -> u64 {
 /// The pulses in the result of a word's fill.
 pub fn pulses_in(fill_result: u64) -> usize {
     (fill_result / PULSES_UNIT) as usize
+}
+
+/// What the number of a file's pages is multiplied by.
+const PAGES_UNIT: u64 = 1 << 32;
+
+/// The result of reading a file: "the device number plus 2^32 times the number of pages".
+pub fn file_result(device: u32, pages: usize) -> u64 {
+    u64::from(device) + PAGES_UNIT * pages as u64
+}
+
+/// The device number in the result of reading a file.
+pub fn device_in(file_result: u64) -> u32 {
+    (file_result % PAGES_UNIT) as u32
+}
+
+/// The number of pages in the result of reading a file.
+pub fn pages_in(file_result: u64) -> usize {
+    (file_result / PAGES_UNIT) as usize
 }
 
 /// `Ok` when the condition of the refusal does not hold.

@@ -3,7 +3,7 @@
 use crate::answer::Answer;
 use crate::page::{BLANK, FILLED, FIRST_ROUND, INSPECTED, SECOND_ROUND};
 use crate::shape::Shape;
-use crate::{file, inspect, page, word};
+use crate::{file, inspect, page, reading, word};
 
 /// The entries, in the order of their numbers.
 #[derive(Clone, Copy, Debug, PartialEq, Eq, Hash)]
@@ -21,10 +21,11 @@ pub enum Entry {
     FillPage,
     WriteInspect,
     ReadInspect,
+    ReadFile,
 }
 
 impl Entry {
-    pub const ALL: [Entry; 13] = [
+    pub const ALL: [Entry; 14] = [
         Entry::EncodeWord,
         Entry::DecodeWord,
         Entry::FillWord,
@@ -38,6 +39,7 @@ impl Entry {
         Entry::FillPage,
         Entry::WriteInspect,
         Entry::ReadInspect,
+        Entry::ReadFile,
     ];
     /// The entries that take a word and may refuse it.
     pub const OF_WORDS: [Entry; 3] = [Entry::DecodeWord, Entry::FillWord, Entry::WordCapacity];
@@ -70,6 +72,8 @@ impl Entry {
     pub const AFTER_THE_FILL: [Entry; 3] = [Entry::PageCapacity, Entry::WriteSecond, Entry::ReadSecond];
     /// The entries of the Inspect code.
     pub const OF_INSPECT: [Entry; 2] = [Entry::WriteInspect, Entry::ReadInspect];
+    /// The entries of transfer files.
+    pub const OF_FILES: [Entry; 2] = [Entry::WriteFile, Entry::ReadFile];
 
     pub fn number(self) -> usize {
         self as usize
@@ -90,19 +94,21 @@ impl Entry {
             Entry::FillPage => "fill page",
             Entry::WriteInspect => "write inspect",
             Entry::ReadInspect => "read inspect",
+            Entry::ReadFile => "read file",
         }
     }
 
     /// What its first buffer holds.
     pub fn page_name(self) -> &'static str {
-        if self == Entry::WriteFile {
-            "pages"
-        } else {
-            "page"
+        match self {
+            Entry::WriteFile => "pages",
+            Entry::ReadFile => "file",
+            _ => "page",
         }
     }
 
-    /// The numbers that the entry refuses by, in the stated order.
+    /// The numbers that the entry refuses by, in the stated order; of the first three of read file, that one comes first
+    /// "which is met first in the file".
     pub fn refusals(self) -> &'static [u8] {
         match self {
             Entry::EncodeWord => &[],
@@ -113,6 +119,7 @@ impl Entry {
             Entry::WriteSecond | Entry::WriteInspect => &[1, 5, 6, 7, 8],
             Entry::ReadSecond | Entry::ReadInspect => &[1, 5, 6, 7, 9, 3],
             Entry::WriteFile => &[13, 3],
+            Entry::ReadFile => &[14, 15, 16, 3],
         }
     }
 
@@ -149,11 +156,11 @@ impl Entry {
     }
 
     pub fn takes_buffers(self) -> bool {
-        self.takes_page() || self == Entry::WriteFile
+        self.takes_page() || Entry::OF_FILES.contains(&self)
     }
 
     pub fn takes_other(self) -> bool {
-        Entry::WITH_OTHER.contains(&self) || self == Entry::WriteFile
+        Entry::WITH_OTHER.contains(&self) || Entry::OF_FILES.contains(&self)
     }
 
     pub fn writes_page(self) -> bool {
@@ -161,17 +168,17 @@ impl Entry {
     }
 
     pub fn writes_output(self) -> bool {
-        matches!(self, Entry::ReadFirst | Entry::ReadSecond | Entry::ReadInspect | Entry::WriteFile)
+        matches!(self, Entry::ReadFirst | Entry::ReadSecond | Entry::ReadInspect) || Entry::OF_FILES.contains(&self)
     }
 }
 
-/// One call. A word entry has an argument and empty buffers; a page entry has the argument 0; write file has the device
-/// number as its argument.
+/// One call. A word entry has an argument and empty buffers; a page entry and read file have the argument 0; write file has
+/// the device number as its argument.
 #[derive(Clone, Debug)]
 pub struct Call {
     pub entry: Entry,
     pub argument: u64,
-    /// The page, or the pages.
+    /// The page, the pages, or the file.
     pub page: Vec<u8>,
     /// The data, the output or the record.
     pub other: Vec<u8>,
@@ -200,6 +207,10 @@ impl Call {
         Call { entry: Entry::WriteFile, argument: u64::from(device), page: pages, other: output, first: None }
     }
 
+    pub fn of_reading(file: Vec<u8>, output: Vec<u8>) -> Call {
+        Call { entry: Entry::ReadFile, argument: 0, page: file, other: output, first: None }
+    }
+
     /// Performs the call; the buffers are then as they are after it.
     pub fn perform(&mut self) -> Answer {
         match self.entry {
@@ -216,7 +227,15 @@ impl Call {
             Entry::FillPage => page::fill_page(&mut self.page),
             Entry::WriteInspect => inspect::write_inspect(&mut self.page, &self.other),
             Entry::ReadInspect => inspect::read_inspect(&self.page, &mut self.other),
+            Entry::ReadFile => reading::read_file(&self.page, &mut self.other),
         }
+    }
+
+    /// The call as it is after its performance, and its answer.
+    pub fn performed(&self) -> (Call, Answer) {
+        let mut after = self.clone();
+        let answer = after.perform();
+        (after, answer)
     }
 
     /// The buffer that the entry may write.
@@ -243,6 +262,7 @@ mod tests {
         let named = [Entry::PageCapacity, Entry::WriteSecond, Entry::ReadSecond, Entry::WriteFile, Entry::FillPage];
         assert_eq!(named.map(Entry::number), [6, 7, 8, 9, 10]);
         assert_eq!(Entry::OF_INSPECT.map(Entry::number), [11, 12]);
+        assert_eq!(Entry::OF_FILES.map(Entry::number), [9, 13]);
     }
 
     #[test]

@@ -1,11 +1,12 @@
 //! Counters of the calls that a run has made, and of their answers. A run is wrong unless it has met each that is wanted:
 //! each answer of each entry on each size of page that it can be met on; among them, accepted pages as only versions before
 //! Change 6 left them, pages that only Change 6 lets be accepted, both ends of what a word takes by the Inspect code, each
-//! word that a record by it ends in, each limit of a length, and pages of 512 bytes that are refused for one of bytes 509 to
-//! 511 alone.
+//! word that a record by it ends in, each limit of a length, pages of 512 bytes that are refused for one of bytes 509 to 511
+//! alone, and each fault of a file at each place.
 
 mod inspect;
 mod length;
+mod reading;
 mod shape;
 mod tail;
 
@@ -16,6 +17,7 @@ use crate::memory::Side;
 use crate::page::{FILLED, FIRST_ROUND};
 use crate::shape::{Shape, LARGE, SMALL};
 use crate::word::PULSES_MOST;
+use reading::Readings;
 use shape::{Named, OfShape};
 
 /// The states that page capacity serves, with their names.
@@ -23,8 +25,8 @@ const MEASURED: [(u8, &str); 2] = [(FIRST_ROUND, "in state 01"), (FILLED, "in st
 
 const ENTRIES: usize = Entry::ALL.len();
 
-/// The numbers of an answer: 0 for acceptance, and 13 refusals.
-const NUMBERS: usize = 14;
+/// The numbers of an answer: 0 for acceptance, and 16 refusals.
+const NUMBERS: usize = 17;
 
 /// For each entry and each number: how often it was answered.
 type Numbers = [[u64; NUMBERS]; ENTRIES];
@@ -71,6 +73,7 @@ pub struct Coverage {
     shapes: [OfShape; 2],
     /// For each number of pulses, 0 to 23: how often fill word answered it.
     word_pulses: [u64; PULSES_MOST + 1],
+    readings: Readings,
 }
 
 impl Coverage {
@@ -80,6 +83,7 @@ impl Coverage {
             measured: [[[[0; NUMBERS]; 2]; 3]; 6],
             shapes: Shape::BOTH.map(OfShape::new),
             word_pulses: [0; PULSES_MOST + 1],
+            readings: Readings::new(),
         }
     }
 
@@ -109,6 +113,8 @@ impl Coverage {
             self.shapes[shape.number()].count(call, answer);
         } else if call.entry == Entry::FillWord && answer.is_ok() {
             self.word_pulses[pulses_in(value(answer))] += 1;
+        } else if call.entry == Entry::ReadFile {
+            self.readings.count(call, answer);
         }
     }
 
@@ -129,7 +135,8 @@ impl Coverage {
         let buffers = Entry::ALL.into_iter().filter(|entry| entry.takes_buffers());
         let places = buffers.flat_map(|entry| self.wanted_places(entry));
         let shapes = self.shapes.iter().flat_map(OfShape::wanted);
-        answers.chain(measured).chain(places).chain(shapes).chain(self.wanted_pulses()).collect()
+        let others = shapes.chain(self.wanted_pulses()).chain(self.readings.wanted());
+        answers.chain(measured).chain(places).chain(others).collect()
     }
 
     fn wanted_of(&self, entry: Entry) -> Vec<Named> {
@@ -213,6 +220,7 @@ impl Coverage {
                 let filled = self.measured[Place::Canaries.number()][size_number(size)][1][0];
                 format!("  filled accepted: {filled}") + &self.shapes[shape.number()].told_of(entry)
             }
+            (Entry::ReadFile, _) => self.readings.told(),
             (_, Some(shape)) => self.shapes[shape.number()].told_of(entry),
             _ => String::new(),
         }
@@ -273,8 +281,8 @@ fn answer_name(number: u8) -> String {
     }
 }
 
-/// The answers that a far length of the entry's page or pages, and of its other buffer with a page of each size, must have
-/// led to.
+/// The answers that a far length of the entry's page, pages or file, and of its other buffer with a page of each size, must
+/// have led to. A file of a far length is refused for what it begins with.
 fn far_answers(entry: Entry) -> Vec<(Size, u8)> {
     let other = match entry {
         Entry::WriteFirst => Some(2),
@@ -282,8 +290,12 @@ fn far_answers(entry: Entry) -> Vec<(Size, u8)> {
         _ if entry.writes_output() => Some(0),
         _ => None,
     };
-    let far_page = if entry.takes_page() { 1 } else { 13 };
-    let wanted = |(size, number): &(Size, u8)| Some(*number) == other || (size.is_none() && *number == far_page);
+    let far_page: &[u8] = match entry {
+        Entry::WriteFile => &[13],
+        Entry::ReadFile => &[14, 15, 16],
+        _ => &[1],
+    };
+    let wanted = |(size, number): &(Size, u8)| Some(*number) == other || (size.is_none() && far_page.contains(number));
     answers(entry).into_iter().filter(wanted).collect()
 }
 
@@ -309,6 +321,7 @@ mod tests {
         assert_eq!(answers(Entry::EncodeWord), [(none, 0)]);
         assert_eq!(answers(Entry::FillWord), [(none, 0), (none, 10), (none, 11), (none, 12)]);
         assert_eq!(answers(Entry::WriteFile), [(none, 0), (none, 13), (none, 3)]);
+        assert_eq!(answers(Entry::ReadFile), [(none, 0), (none, 14), (none, 15), (none, 16), (none, 3)]);
         let of_first = [(none, 1), (small, 0), (small, 2), (small, 4), (large, 0), (large, 2), (large, 4)];
         assert_eq!(answers(Entry::WriteFirst), of_first);
         let of_inspect = [0, 5, 6, 7, 8];
@@ -333,6 +346,7 @@ mod tests {
         assert_eq!(far_answers(Entry::WriteInspect), [(none, 1), (small, 8), (large, 8)]);
         assert_eq!(far_answers(Entry::ReadInspect), [(none, 1), (small, 0), (large, 0)]);
         assert_eq!(far_answers(Entry::WriteFile), [(none, 0), (none, 13)]);
+        assert_eq!(far_answers(Entry::ReadFile), [(none, 0), (none, 14), (none, 15), (none, 16)]);
     }
 
     /// Each entry with buffers gives each of its answers on both sides of untouchable memory, and the far ones.
@@ -446,7 +460,7 @@ mod tests {
     #[test]
     fn the_lines_of_the_table() {
         let table = Coverage::new().table();
-        assert_eq!(table.lines().count(), 5 + 3 * 8);
+        assert_eq!(table.lines().count(), 6 + 3 * 8);
         for (name, bytes) in [("read second", "256 bytes"), ("read second", "512 bytes"), ("read inspect", "512 bytes")]
         {
             assert!(table.lines().any(|line| line.starts_with(name) && line.contains(bytes)), "{name} {bytes}");

@@ -222,12 +222,15 @@ mod tests {
     #[test]
     fn the_report_names_the_case_of_a_file() {
         let mark = Mark::new();
-        let case = Case::new(7, Part::Far, 31, &Call::of_file(1, vec![1; 512], Vec::new())).at(Place::Far);
-        mark.set(&case, 0, 0);
-        assert!(case
-            .to_string()
-            .ends_with("write file (pages of 512 bytes, other buffer of 0 bytes, with a far length)"));
-        assert!(text_of(&mark.report(SIGSEGV)).contains(&case.to_string()));
+        for (call, name) in [
+            (Call::of_file(1, vec![1; 512], Vec::new()), "write file (pages of 512 bytes, other buffer of 0 bytes"),
+            (Call::of_reading(vec![1; 12], vec![2; 9]), "read file (file of 12 bytes, other buffer of 9 bytes"),
+        ] {
+            let case = Case::new(7, Part::Far, 31, &call).at(Place::Far);
+            mark.set(&case, 0, 0);
+            assert!(case.to_string().ends_with(&format!("{name}, with a far length)")));
+            assert!(text_of(&mark.report(SIGSEGV)).contains(&case.to_string()));
+        }
     }
 
     /// Each name at its longest.

@@ -1,4 +1,4 @@
-//! The transfer file, of pages of 256 bytes.
+//! The transfer file, of pages of 256 bytes, and its writing.
 
 use crate::answer::{refuse_if, Answer, Refusal};
 use crate::shape::SMALL;
@@ -7,39 +7,44 @@ use crate::shape::SMALL;
 pub const FILE_PAGES_MOST: usize = 64;
 
 /// "The file starts with the two bytes F1 B0 (hexadecimal)."
-const START: [u8; 2] = [0xF1, 0xB0];
+pub const START: [u8; 2] = [0xF1, 0xB0];
 
-const PAGE_TAG: u8 = 0x01;
-const DEVICE_TAG: u8 = 0x02;
-const END_TAG: u8 = 0x7F;
+/// "each page, in order, is a field of tag 01 and 256 bytes".
+pub const PAGE_TAG: u8 = 0x01;
+/// "Tag 02 holds the device number in 4 bytes".
+pub const DEVICE_TAG: u8 = 0x02;
+/// "Tag 7F with length 0 ends the file."
+pub const END_TAG: u8 = 0x7F;
 
-/// "So a file of n pages has 12 + 259 n bytes".
+/// "So with n pages it has 12 + 259 n bytes".
 pub fn file_bytes(pages: usize) -> usize {
     12 + 259 * pages
 }
 
 /// "a one-byte tag, a two-byte length with the high byte first, and the contents".
-fn field(tag: u8, contents: &[u8]) -> Vec<u8> {
+pub fn field(tag: u8, contents: &[u8]) -> Vec<u8> {
     let length = u16::try_from(contents.len()).expect("a length of two bytes");
-    [&[tag], &length.to_be_bytes()[..], contents].concat()
+    [&head(tag, length)[..], contents].concat()
 }
 
-/// The device number, then each page, "in order", then the end.
-fn file_of(device: u32, pages: &[u8]) -> Vec<u8> {
-    let mut file = START.to_vec();
-    file.extend(field(DEVICE_TAG, &device.to_be_bytes()));
-    for page in pages.chunks(SMALL.bytes) {
-        file.extend(field(PAGE_TAG, page));
-    }
-    file.extend(field(END_TAG, &[]));
-    file
+/// What a field has before its contents.
+pub fn head(tag: u8, length: u16) -> [u8; 3] {
+    let [high, low] = length.to_be_bytes();
+    [tag, high, low]
+}
+
+/// The start, and the fields: the device number, then each page, "in order", then the end.
+pub fn parts_of(device: u32, pages: &[u8]) -> Vec<Vec<u8>> {
+    let first = [START.to_vec(), field(DEVICE_TAG, &device.to_be_bytes())];
+    let pages = pages.chunks(SMALL.bytes).map(|page| field(PAGE_TAG, page));
+    first.into_iter().chain(pages).chain([field(END_TAG, &[])]).collect()
 }
 
 /// "The writer returns the number of bytes written; output after them is unchanged."
 pub fn write_file(device: u32, pages: &[u8], output: &mut [u8]) -> Answer {
     let rest = pages.len() % SMALL.bytes;
     refuse_if(rest > 0 || pages.len() > FILE_PAGES_MOST * SMALL.bytes, Refusal::PAGES_LENGTH)?;
-    let file = file_of(device, pages);
+    let file = parts_of(device, pages).concat();
     refuse_if(output.len() < file.len(), Refusal::OUTPUT_LENGTH)?;
     output[..file.len()].copy_from_slice(&file);
     Ok(file.len() as u64)

@@ -10,7 +10,7 @@ use std::os::fd::{AsRawFd, FromRawFd};
 use std::{ptr, slice};
 
 /// The longest buffer that an arena takes.
-pub const ARENA_BYTES: usize = 1 << 17;
+pub const ARENA_BYTES: usize = 1 << 18;
 /// The untouchable bytes behind a far buffer: half of what x86-64 Linux lets a process reserve.
 pub const FAR_BYTES: usize = 1 << 46;
 /// The untouchable bytes on each side of an arena.

@@ -3,6 +3,7 @@
 mod inspect;
 mod large;
 mod large_inspect;
+mod reading;
 
 use crate::answer::{number, value};
 use crate::call::{Call, Entry};
@@ -63,8 +64,8 @@ fn end_calls() -> Vec<Call> {
     script.calls
 }
 
-/// All calls of the vectors; after those of the Inspect code come those with pages of 512 bytes, at the end by the Inspect
-/// code and about lengths of two bytes.
+/// All calls of the vectors; after those of the Inspect code come those with pages of 512 bytes, then by the Inspect code and
+/// about lengths of two bytes, and at the end those of read file.
 pub fn calls() -> Vec<Call> {
     let mut script = Script { random: Random::new(SEED), calls: Vec::new() };
     script.listed_words();
@@ -98,16 +99,16 @@ pub fn calls() -> Vec<Call> {
     script.calls.extend(inspect::calls());
     script.calls.extend(large::calls());
     script.calls.extend(large_inspect::calls());
+    script.calls.extend(reading::calls());
     script.calls
 }
 
 impl Script {
     /// Adds the call; returns it as it is after its performance.
     fn add(&mut self, call: Call) -> Call {
-        let mut after = call.clone();
-        self.calls.push(call);
         // An outcome is made from this copy; the answer is worked out again for the text.
-        let _ = after.perform();
+        let (after, _) = call.performed();
+        self.calls.push(call);
         after
     }
 
@@ -439,9 +440,9 @@ impl Script {
         }
     }
 
-    /// The orders of every entry but write file and those of the Inspect code, whose calls come last.
+    /// The orders of every entry but those of files and of the Inspect code, whose calls come later.
     fn orders(&mut self) {
-        let later = |entry: &Entry| *entry == Entry::WriteFile || Entry::OF_INSPECT.contains(entry);
+        let later = |entry: &Entry| Entry::OF_FILES.contains(entry) || Entry::OF_INSPECT.contains(entry);
         Entry::ALL.into_iter().filter(|entry| !later(entry)).for_each(|entry| self.orders_of(entry, SMALL));
     }
 
@@ -584,8 +585,8 @@ impl Script {
     }
 }
 
-/// The binary file: for each call a header of 13 bytes (the entry's number, the argument, and the two lengths), the page
-/// or pages, and the other buffer, which has length 0 where the entry takes none.
+/// The binary file: for each call a header of 13 bytes (the entry's number, the argument, and the two lengths), the page,
+/// pages or file, and the other buffer, which has length 0 where the entry takes none.
 pub fn input_of(calls: &[Call]) -> Vec<u8> {
     let mut bytes = Vec::new();
     for call in calls {
@@ -603,8 +604,7 @@ pub fn input_of(calls: &[Call]) -> Vec<u8> {
 
 /// One line: index, entry, number, value, and the bytes of the buffer that the entry may write.
 fn line_of(index: usize, call: &Call) -> String {
-    let mut after = call.clone();
-    let answer = after.perform();
+    let (after, answer) = call.performed();
     let mut line = format!("{index} {} {} {}", call.entry.number(), number(answer), value(answer));
     if let Some(written) = after.written() {
         line.push(' ');
@@ -630,10 +630,19 @@ mod tests {
     use std::collections::HashSet;
     use std::sync::OnceLock;
 
+    /// Each call before and after its performance, and its answer.
+    pub fn performed(calls: Vec<Call>) -> Vec<(Call, Call, Answer)> {
+        let perform = |call: Call| {
+            let (after, answer) = call.performed();
+            (call, after, answer)
+        };
+        calls.into_iter().map(perform).collect()
+    }
+
     #[test]
     fn size_and_variety() {
         let calls = calls();
-        assert_eq!(calls.len(), 2_710);
+        assert_eq!(calls.len(), 2_827);
         assert!(text_of(&calls).len() < 850_000);
         assert!(input_of(&calls).len() < 1_200_000);
         assert!(calls.iter().all(|call| call.page.len().max(call.other.len()) <= LENGTH_MOST));
@@ -644,11 +653,13 @@ mod tests {
     }
 
     /// Before the calls of write file come those of all other entries but the Inspect code's; after them, those about that
-    /// code, and at the end those with pages of 512 bytes.
+    /// code, those with pages of 512 bytes, and at the end those of read file.
     #[test]
     fn the_order_of_the_calls() {
-        let before_the_large = calls().len() - large::calls().len() - large_inspect::calls().len();
+        let before_the_reading = calls().len() - reading::calls().len();
+        let before_the_large = before_the_reading - large::calls().len() - large_inspect::calls().len();
         for (index, call) in calls().into_iter().enumerate() {
+            assert_eq!(call.entry == Entry::ReadFile, index >= before_the_reading, "{index}");
             assert_eq!(call.entry == Entry::WriteFile, (1_196..1_222).contains(&index), "{index}");
             assert!(index >= 1_222 || !Entry::OF_INSPECT.contains(&call.entry), "{index}");
             let large = call.page.len() == LARGE.bytes && call.entry.takes_page();

@@ -41,6 +41,7 @@ extern "C" {
     fn wom_write_inspect(page: *mut u8, page_length: usize, record: *const u8, record_length: usize) -> u64;
     fn wom_read_inspect(page: *const u8, page_length: usize, out: *mut u8, out_length: usize) -> u64;
     fn wom_write_file(device: u32, pages: *const u8, pages_length: usize, out: *mut u8, out_length: usize) -> u64;
+    fn wom_read_file(file: *const u8, file_length: usize, out: *mut u8, out_length: usize) -> u64;
 }
 
 /// Performs the call by the archive, with these buffers in place of its own.
@@ -64,6 +65,7 @@ fn perform(call: &Call, page: Span, other: Span) -> u64 {
             Entry::WriteFile => {
                 wom_write_file(call.argument as u32, page.start, page.length, other.start, other.length)
             }
+            Entry::ReadFile => wom_read_file(page.start, page.length, other.start, other.length),
         }
     }
 }
@@ -78,8 +80,7 @@ struct Expected {
 
 impl Expected {
     fn of(call: &Call) -> Expected {
-        let mut after = call.clone();
-        let answer = after.perform();
+        let (after, answer) = call.performed();
         Expected { answer, page: after.page, other: after.other }
     }
 
@@ -324,9 +325,10 @@ impl Run {
         }
     }
 
-    /// The page of a far call: untouchable when it is far, read-only when it is not.
-    fn far_page(&mut self, far: &FarCall) -> Span {
+    /// The page of a far call: untouchable when it is far, but for the bytes touched; read-only when it is not.
+    fn far_page(&mut self, far: &FarCall, touched: usize) -> Span {
         match far.page {
+            Some(length) if touched > 0 => self.far.put(&far.near.page[..touched], length),
             Some(length) => self.far.untouchable(0, length),
             None => self.page.put(&far.near.page, Side::Before, Access::ReadOnly),
         }
@@ -348,8 +350,8 @@ impl Run {
         let (page_length, other_length) = (far.page_length(), far.other_length());
         let case = Case::new(self.seed, Part::Far, number, &far.near).at(Place::Far);
         let case = Case { page_length, other_length, ..case };
-        let touched = far.touched(expected.answer);
-        let (page, other) = (self.far_page(far), self.far_other(far, touched));
+        let touched = [far.page_touched(), far.other_touched(expected.answer)];
+        let (page, other) = (self.far_page(far, touched[0]), self.far_other(far, touched[1]));
         self.tally.mark(&case);
         let answer = perform(&far.near, page, other);
         self.coverage.count(&far.near, case.place, expected.answer);
@@ -358,26 +360,27 @@ impl Run {
         self.compare_far(&case, far, &expected, touched);
     }
 
-    /// Compares what can be touched of the buffers.
-    fn compare_far(&mut self, case: &Case, far: &FarCall, expected: &Expected, touched: usize) {
+    /// Compares what can be touched of the buffers; the bytes touched of a far one are given for each.
+    fn compare_far(&mut self, case: &Case, far: &FarCall, expected: &Expected, touched: [usize; 2]) {
         let Expected { page, other, .. } = expected;
+        let name = case.entry.page_name();
         if far.page.is_none() {
-            let name = case.entry.page_name();
             self.tally.compare_bytes(case, name, page, self.page.bytes(page.len(), Side::Before));
         }
         if far.other.is_none() && case.entry.takes_other() {
             self.tally.compare_bytes(case, "other buffer", other, self.other.bytes(other.len(), Side::Before));
         }
-        if touched > 0 {
-            self.tally.compare_bytes(case, "other buffer", &other[..touched], self.far.bytes(touched));
+        for (name, buffer, touched) in [(name, page, touched[0]), ("other buffer", other, touched[1])] {
+            if touched > 0 {
+                self.tally.compare_bytes(case, name, &buffer[..touched], self.far.bytes(touched));
+            }
         }
     }
 
     /// Returns the number of cases.
     fn systematic_cases(&mut self) -> usize {
-        let calls = systematic::calls();
-        (0..).zip(&calls).for_each(|(number, call)| self.case(Part::Systematic, number, call));
-        calls.len()
+        let cases = (0..).zip(systematic::calls());
+        cases.map(|(number, call)| self.case(Part::Systematic, number, &call)).count()
     }
 
     fn far_cases(&mut self) {

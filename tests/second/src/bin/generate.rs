@@ -1,11 +1,13 @@
 //! Makes the tests' files: the vectors, the pages of the listing and of the gain sheet, pages at random, and pages of one
-//! kind; and lists pages, draws up their gain sheet, and writes their transfer file, by this implementation.
+//! kind; and lists pages, draws up their gain sheet, writes their transfer file and reads it, by this implementation.
 
+use second::answer::{device_in, pages_in, Refusal};
 use second::cases::pages::any_page;
 use second::command::command;
 use second::file::{file_bytes, write_file, FILE_PAGES_MOST};
 use second::listing::{listing, PAGES_MOST};
 use second::random::Random;
+use second::reading::read_file;
 use second::samples::{self, Alike};
 use second::shape::SMALL;
 use second::sheet::sheet;
@@ -16,7 +18,7 @@ use std::path::Path;
 use std::process::ExitCode;
 
 const USAGE: &str = "usage: generate vectors DIR | listing DIR | sheet DIR | pages SEED COUNT EXTRA | \
-                     alike blank|first|filled|second|bad|inspect COUNT | list | gain | file DEVICE";
+                     alike blank|first|filled|second|bad|inspect COUNT | list | gain | file DEVICE | read";
 
 /// Writes the two files of a test.
 fn write_test(folder: &str, input: &[u8], text: &str) -> io::Result<()> {
@@ -67,6 +69,17 @@ fn input(most: usize) -> io::Result<Vec<u8>> {
     Ok(input)
 }
 
+/// Writes the first bytes of the output, as many as these, to standard output.
+fn write_first(output: &[u8], length: usize) -> io::Result<()> {
+    io::stdout().write_all(&output[..length])?;
+    io::stdout().flush()
+}
+
+/// The refusal of an operation as an error.
+fn refused(operation: &str, refusal: Refusal) -> io::Error {
+    io::Error::other(format!("{operation} refuses {}", refusal.number))
+}
+
 /// Prints the listing or the sheet of standard input.
 fn print(text: fn(&[u8]) -> String) -> io::Result<()> {
     io::stdout().write_all(text(&input(PAGES_MOST * SMALL.bytes)?).as_bytes())
@@ -76,10 +89,16 @@ fn print(text: fn(&[u8]) -> String) -> io::Result<()> {
 fn file(device: u32) -> io::Result<()> {
     let pages = input(FILE_PAGES_MOST * SMALL.bytes + 1)?;
     let mut output = vec![0; file_bytes(FILE_PAGES_MOST)];
-    let length = write_file(device, &pages, &mut output)
-        .map_err(|refusal| io::Error::other(format!("write file refuses {}", refusal.number)))?;
-    io::stdout().write_all(&output[..length as usize])?;
-    io::stdout().flush()
+    let length = write_file(device, &pages, &mut output).map_err(|refusal| refused("write file", refusal))?;
+    write_first(&output, length as usize)
+}
+
+/// Reads standard input as a transfer file: writes its pages to standard output, and "device N pages M" to standard error.
+fn read() -> io::Result<()> {
+    let mut output = vec![0; FILE_PAGES_MOST * SMALL.bytes];
+    let result = read_file(&input(usize::MAX)?, &mut output).map_err(|refusal| refused("read file", refusal))?;
+    eprintln!("device {} pages {}", device_in(result), pages_in(result));
+    write_first(&output, SMALL.bytes * pages_in(result))
 }
 
 /// What the arguments ask for, or nothing when they are not as the usage says.
@@ -93,6 +112,7 @@ fn asked(arguments: &[&str]) -> Option<ExitCode> {
         ["list"] => print(listing),
         ["gain"] => print(sheet),
         ["file", device] => file(device.parse().ok()?),
+        ["read"] => read(),
         _ => return None,
     };
     match done {

@@ -7,6 +7,7 @@ use super::pages::{
     any_first, any_record, blank, filled_page, filled_page_earlier, first_and_record, header_places, most_bytes,
     with_data_cell, with_flaw, with_length, with_word, written_over, Filling,
 };
+use super::reading::{any_file, bytes_read, ended_early, with_field_fault, with_tail, Damage};
 use super::words::{any_argument, any_value, illegal, sum_too_large, with_hole, with_neighbours, Hole};
 use crate::call::{Call, Entry};
 use crate::file::file_bytes;
@@ -64,9 +65,14 @@ fn sound_by(random: &mut Random, entry: Entry, shape: Shape, fill: Filling) -> C
             Call::of_page(entry, inspect_page(&first, &record), random.bytes(length))
         }
         Entry::WriteFile => {
-            let pages = any_pages(random);
+            let pages = any_pages(random, 0);
             let length = file_bytes(pages.len() / SMALL.bytes) + random.below(3);
             Call::of_file(any_device(random), pages, random.bytes(length))
+        }
+        Entry::ReadFile => {
+            let file = any_file(random, 1);
+            let length = bytes_read(&file) + random.below(3);
+            Call::of_reading(file, random.bytes(length))
         }
     }
 }
@@ -76,6 +82,7 @@ fn output_needed(call: &Call) -> usize {
     match call.entry {
         Entry::ReadFirst => known_shape(&call.page).first_bytes,
         Entry::WriteFile => file_bytes(call.page.len() / SMALL.bytes),
+        Entry::ReadFile => bytes_read(&call.page),
         _ => length_of(&call.page),
     }
 }
@@ -158,6 +165,11 @@ fn spoil_data_cells(random: &mut Random, call: &mut Call) {
     call.page = with_data_cell(page, random.pick(&[first, found - 1, any.max(first)]));
 }
 
+/// Another file.
+fn spoil_file(random: &mut Random, call: &mut Call, damage: Damage) {
+    call.page = damage(random, std::mem::take(&mut call.page));
+}
+
 /// Damages a sound call so that it meets the condition of the refusal with this number.
 fn damage(random: &mut Random, call: &mut Call, number: u8) {
     match number {
@@ -186,10 +198,13 @@ fn damage(random: &mut Random, call: &mut Call, number: u8) {
             call.argument = number_of(&cells);
         }
         12 => call.argument = number_of(&sum_too_large(random)),
-        _ => {
+        13 => {
             let length = wrong_pages_length(random);
             resize_page(random, call, length);
         }
+        14 => spoil_file(random, call, ended_early),
+        15 => spoil_file(random, call, with_field_fault),
+        _ => spoil_file(random, call, with_tail),
     }
 }
 

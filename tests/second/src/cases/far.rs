@@ -1,17 +1,19 @@
 //! The calls of the differential run with lengths far beyond any page, record, output or file.
 
 use super::damage::{combined, sound};
-use super::files::{any_device, any_pages};
+use super::files::{any_device, any_pages, numbered};
 use super::inspect::{inspect_page, RECORDS};
 use super::lengths::resized;
 use super::pages::{any_first, filled_page, page_of, second_page};
+use super::reading::{about, any_field_of, file_of, with_field_fault, with_tail, STAGES};
 use super::words::SPARSE_VALUE;
-use crate::answer::Answer;
+use crate::answer::{pages_in, Answer};
 use crate::call::{Call, Entry};
-use crate::file::{file_bytes, FILE_PAGES_MOST};
+use crate::file::{file_bytes, head, DEVICE_TAG, END_TAG, FILE_PAGES_MOST, PAGE_TAG};
 use crate::memory::FAR_BYTES;
 use crate::page::known_shape;
 use crate::random::Random;
+use crate::reading::{Fault, Reading, Stage};
 use crate::shape::{Shape, LARGE, SMALL};
 
 const SEED: u64 = 2_024;
@@ -53,7 +55,8 @@ const PAGES_LOW_PARTS: [usize; 4] = [0, 1, SMALL.bytes, FILE_PAGES_MOST * SMALL.
 const LONGEST: [usize; 2] = [isize::MAX as usize, isize::MAX as usize - 255];
 
 /// A call with a far length. The rules treat all lengths alike that are too long, or long enough: the answer is that of
-/// the near call, whose page, pages, data or record is a little too long, or whose output is long enough.
+/// the near call, whose page, pages, data or record is a little too long, or whose output is long enough. A file that has a
+/// fault is refused for it, whatever follows.
 pub struct FarCall {
     pub near: Call,
     /// The lengths that are told in place of the near ones.
@@ -70,15 +73,23 @@ impl FarCall {
         self.other.unwrap_or(self.near.other.len())
     }
 
-    /// The number of bytes of the far buffer that may be looked at: of an output, those of the record or the file; of a
-    /// record for the Inspect code, those that walks could take, for what 8 names hangs on its bits, and the few bytes
-    /// after them that come with the last ones where eight are moved at once. The rules refuse a page, pages, data and a
-    /// record for the fill code of a far length by the length alone.
-    pub fn touched(&self, answer: Answer) -> usize {
+    /// The number of bytes of a far page or file that may be looked at: of a file, those that tell its fault. The rules refuse
+    /// a page and pages of a far length by the length alone.
+    pub fn page_touched(&self) -> usize {
+        let file = Some(&self.near.page).filter(|_| self.near.entry == Entry::ReadFile && self.page.is_some());
+        file.map_or(0, |file| Reading::of(file).telling(file))
+    }
+
+    /// The number of bytes of the far other buffer that may be looked at: of an output, those of the record, the file or the
+    /// pages; of a record for the Inspect code, those that walks could take, for what 8 names hangs on its bits, and the few
+    /// bytes after them that come with the last ones where eight are moved at once. The rules refuse data and a record for
+    /// the fill code of a far length by the length alone.
+    pub fn other_touched(&self, answer: Answer) -> usize {
         match (self.near.entry, answer) {
             (Entry::WriteInspect, _) if self.page.is_none() => self.near.other.len(),
             (Entry::ReadFirst, Ok(_)) => known_shape(&self.near.page).first_bytes,
             (Entry::ReadSecond | Entry::ReadInspect | Entry::WriteFile, Ok(length)) => length as usize,
+            (Entry::ReadFile, Ok(result)) => SMALL.bytes * pages_in(result),
             _ => 0,
         }
     }
@@ -127,6 +138,12 @@ fn far_other_lengths(entry: Entry, shape: Shape) -> Vec<usize> {
     lengths.filter(|&length| length >= near_length(entry, shape)).collect()
 }
 
+/// Whether the file is refused for what is there, and not for what is missing.
+fn faulty_at_its_beginning(file: &[u8]) -> bool {
+    let fault = Reading::of(file).fault;
+    matches!(fault, Some(Fault::Start | Fault::Tag | Fault::Sequence | Fault::Length | Fault::Tail))
+}
+
 /// None of the entry's refusals, and each by itself but those for the other buffer's length: choices for `combined`.
 fn single_choices(entry: Entry) -> Vec<usize> {
     let single = |(place, number): (usize, &u8)| (!matches!(number, 2 | 3 | 8)).then_some(1 << place);
@@ -152,6 +169,10 @@ pub fn calls() -> Vec<FarCall> {
     [0, 1, FILE_PAGES_MOST].into_iter().for_each(|count| walk.file_outputs(count));
     walk.refused_file_outputs();
     walk.file_pages_and_outputs();
+    [0, 1, FILE_PAGES_MOST].into_iter().for_each(|count| walk.read_outputs(count));
+    walk.refused_read_outputs();
+    walk.read_files();
+    walk.read_files_and_outputs();
     walk.calls
 }
 
@@ -239,7 +260,7 @@ impl Walk {
 
     /// A call of write file with any pages of this length, and an output of the other.
     fn file(&mut self, pages_length: usize, length: usize) -> Call {
-        let pages = any_pages(&mut self.random);
+        let pages = any_pages(&mut self.random, 0);
         let pages = resized(&mut self.random, pages, pages_length);
         let device = any_device(&mut self.random);
         Call::of_file(device, pages, self.random.bytes(length))
@@ -283,6 +304,76 @@ impl Walk {
             self.calls.push(FarCall { near, page, other });
         }
     }
+
+    /// Outputs of every far length for a file with this many pages; cut, they are empty or one short.
+    fn read_outputs(&mut self, count: usize) {
+        let exact = SMALL.bytes * count;
+        let lengths = [0, exact.saturating_sub(1)].into_iter().flat_map(far_lengths).filter(|&length| length >= exact);
+        for length in lengths {
+            let file = file_of(any_device(&mut self.random), &numbered(&mut self.random, exact));
+            let near = Call::of_reading(file, self.random.bytes(exact));
+            self.calls.push(FarCall { near, page: None, other: Some(length) });
+        }
+    }
+
+    /// Files that are cut, that have a fault in a field, and that have a tail.
+    fn refused_files(&mut self) -> [Vec<u8>; 3] {
+        let file = file_of(any_device(&mut self.random), &numbered(&mut self.random, 2 * SMALL.bytes));
+        let cut = file[..file.len() - 1].to_vec();
+        [cut, with_field_fault(&mut self.random, file.clone()), with_tail(&mut self.random, file)]
+    }
+
+    /// Outputs of every far length for files that are refused.
+    fn refused_read_outputs(&mut self) {
+        for length in far_lengths(0).into_iter().chain(LONGEST) {
+            for file in self.refused_files() {
+                let near = Call::of_reading(file, Vec::new());
+                self.calls.push(FarCall { near, page: None, other: Some(length) });
+            }
+        }
+    }
+
+    /// Files that are refused for what they begin with: another start; at each stage an unknown tag, a field out of sequence
+    /// and one of a wrong length; and a byte after the end field.
+    fn faulty_files(&mut self) -> Vec<Vec<u8>> {
+        let mut files = vec![vec![0xF0, 0xB0], vec![0xF1, 0xB1]];
+        for stage in STAGES {
+            let [before, _] = about(&mut self.random, stage);
+            let tags =
+                [0x00, 0x3F, 0x70, 0xFF, DEVICE_TAG, PAGE_TAG, END_TAG].map(|tag| any_field_of(&mut self.random, tag));
+            let lengths = [head(DEVICE_TAG, 5), head(PAGE_TAG, 255), head(END_TAG, 1)].map(|head| head.to_vec());
+            files.extend(tags.into_iter().chain(lengths).map(|field| [&before[..], &field].concat()));
+        }
+        files.extend(
+            [0, 1, FILE_PAGES_MOST].map(|count| [&about(&mut self.random, Stage::End(count))[0][..], &[0]].concat()),
+        );
+        files.into_iter().filter(|file| faulty_at_its_beginning(file)).collect()
+    }
+
+    /// Such files of every far length; cut, they end at their start, before the fault, and right after what tells it.
+    fn read_files(&mut self) {
+        for file in self.faulty_files() {
+            let (next, telling) = (Reading::of(&file).next, Reading::of(&file).telling(&file));
+            let lengths = [0, next, telling].into_iter().flat_map(far_lengths).chain(LONGEST);
+            for length in lengths.filter(|&length| length > file.len()) {
+                let near = Call::of_reading(file.clone(), self.random.bytes(9));
+                self.calls.push(FarCall { near, page: Some(length), other: None });
+            }
+        }
+    }
+
+    /// Such files and an output of far lengths.
+    fn read_files_and_outputs(&mut self) {
+        for (file, high) in self
+            .faulty_files()
+            .into_iter()
+            .flat_map(|file| [1 << 16, 1 << 32, 1 << 40].map(|high| (file.clone(), high)))
+        {
+            let length = high + Reading::of(&file).next;
+            let near = Call::of_reading(file, Vec::new());
+            self.calls.push(FarCall { near, page: Some(length), other: Some(high) });
+        }
+    }
 }
 
 #[cfg(test)]
@@ -293,7 +384,7 @@ mod tests {
     /// Each call with its answer.
     fn answered() -> Vec<(FarCall, Answer)> {
         let with_answer = |far: FarCall| {
-            let answer = far.near.clone().perform();
+            let (_, answer) = far.near.performed();
             (far, answer)
         };
         calls().into_iter().map(with_answer).collect()
@@ -301,7 +392,7 @@ mod tests {
 
     #[test]
     fn the_number_of_calls() {
-        assert_eq!(calls().len(), 1_323);
+        assert_eq!(calls().len(), 2_759);
     }
 
     #[test]
@@ -313,10 +404,55 @@ mod tests {
     /// "Refusal 1 now means neither 256 nor 512 bytes", and 13 when the pages' bytes "exceed 64 pages".
     #[test]
     fn a_far_page_is_refused_1_and_far_pages_13() {
-        for (far, answer) in answered().into_iter().filter(|(far, _)| far.page.is_some()) {
+        let of_pages = |far: &FarCall| far.page.is_some() && far.near.entry != Entry::ReadFile;
+        for (far, answer) in answered().into_iter().filter(|(far, _)| of_pages(far)) {
             let wanted = if far.near.entry == Entry::WriteFile { 13 } else { 1 };
             assert_eq!(number(answer), wanted, "{}", far.near.entry.name());
             assert!(far.page_length() > if wanted == 13 { 16_384 } else { 256 });
+            assert_eq!(far.page_touched(), 0);
+        }
+    }
+
+    /// The far calls of read file with a far file, and their answers.
+    fn far_files() -> impl Iterator<Item = (FarCall, Answer)> {
+        answered().into_iter().filter(|(far, _)| far.page.is_some() && far.near.entry == Entry::ReadFile)
+    }
+
+    /// A file is refused for what it begins with: no byte after that changes the answer, and one byte less does.
+    #[test]
+    fn a_far_file_is_refused_for_what_it_begins_with() {
+        for (far, answer) in far_files() {
+            let touched = far.page_touched();
+            assert!(matches!(number(answer), 14..=16));
+            assert!(touched <= far.near.page.len() && far.near.page.len() < far.page_length());
+            let with = |page: Vec<u8>| Call { page, ..far.near.clone() }.perform();
+            for more in [&[0x00][..], &[0x7F; 9], &[0xFF; 600]] {
+                assert_eq!(with([&far.near.page[..touched], more].concat()), answer);
+            }
+            let cut = with(far.near.page[..touched - 1].to_vec());
+            assert_eq!(number(cut), 14);
+        }
+    }
+
+    /// Each kind of fault at each stage, and cut to 16 or 32 bits, lengths that end the file before it, and that end a sound
+    /// file with its end field.
+    #[test]
+    fn faults_of_far_files() {
+        let met: Vec<_> = far_files()
+            .map(|(far, _)| {
+                let reading = Reading::of(&far.near.page);
+                (reading.fault, reading.stage, reading.next, far.page_length())
+            })
+            .collect();
+        let has = |fault: Fault, stage: Stage| met.iter().any(|&(met, at, ..)| (met, at) == (Some(fault), stage));
+        assert!(STAGES.into_iter().all(|stage| has(Fault::Tag, stage) && has(Fault::Sequence, stage)));
+        assert!(STAGES.into_iter().all(|stage| has(Fault::Length, stage)));
+        assert!(
+            [0, 1, 64].into_iter().all(|count| has(Fault::Tail, Stage::End(count))) && has(Fault::Start, Stage::Start)
+        );
+        for &(fault, stage, next, _) in &met {
+            let of_file = |bits: i32| met.iter().any(|one| *one == (fault, stage, next, (1 << bits) + next));
+            assert!(of_file(32) && of_file(16), "{fault:?} {stage:?}");
         }
     }
 
@@ -349,18 +485,20 @@ mod tests {
                 Entry::ReadFirst => &[0, 1, 5, 6, 7],
                 Entry::WriteSecond | Entry::WriteInspect => &[1, 5, 6, 7, 8],
                 Entry::WriteFile => &[0, 13],
+                Entry::ReadFile => &[0, 14, 15, 16],
                 _ => &[0, 1, 5, 6, 7, 9],
             };
             assert!(wanted.contains(&number(answer)), "{} {answer:?}", far.near.entry.name());
         }
     }
 
-    /// What is not reserved is only for buffers of calls that are refused 8 or 13, which are never looked at.
+    /// What is not reserved is only for buffers of calls that are refused 8, or 13 and beyond, which are never looked at so far.
     #[test]
     fn lengths_that_are_not_reserved() {
         for (far, answer) in answered() {
             let lengths = far.page_length().max(far.other_length());
-            assert!(lengths <= FAR_BYTES || matches!(number(answer), 8 | 13), "{} {answer:?}", far.near.entry.name());
+            let refused = matches!(number(answer), 8 | 13..=16);
+            assert!(lengths <= FAR_BYTES || refused, "{} {answer:?}", far.near.entry.name());
         }
     }
 
@@ -371,7 +509,7 @@ mod tests {
         let records =
             answered().into_iter().filter(|(far, _)| far.near.entry == Entry::WriteInspect && far.page.is_none());
         for (far, answer) in records {
-            assert!([247 + 8, 495 + 8].contains(&far.touched(answer)));
+            assert!([247 + 8, 495 + 8].contains(&far.other_touched(answer)));
             let longer = Call { other: [&far.near.other[..], &[0xFF; 9]].concat(), ..far.near.clone() };
             assert_eq!(longer.clone().perform(), answer);
             assert!(far.other_length() > longer.other.len());
@@ -416,6 +554,24 @@ mod tests {
             let of_count = |far: &&FarCall| far.near.page.len() == 256 * count;
             for (high, low) in [16, 32].into_iter().flat_map(|bits| [(1 << bits, 0), (1 << bits, exact - 1)]) {
                 assert!(calls.iter().filter(of_count).any(|far| far.other == Some(high + low)), "{count} pages");
+            }
+        }
+    }
+
+    /// The same of outputs for the pages of accepted files.
+    #[test]
+    fn outputs_for_pages_that_look_too_short_in_fewer_bits() {
+        let met: Vec<_> = answered()
+            .into_iter()
+            .filter(|(far, _)| far.near.entry == Entry::ReadFile)
+            .filter_map(|(far, answer)| Some((pages_in(answer.ok()?), far.other?, far.other_touched(answer))))
+            .collect();
+        for count in [0, 1, 64] {
+            let exact: usize = 256 * count;
+            for (high, low) in
+                [16, 32].into_iter().flat_map(|bits| [(1 << bits, 0), (1 << bits, exact.saturating_sub(1))])
+            {
+                assert!(met.contains(&(count, high + low, exact)), "{count} pages");
             }
         }
     }

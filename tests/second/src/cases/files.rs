@@ -52,7 +52,7 @@ fn of_any_kind(random: &mut Random, length: usize) -> Vec<u8> {
 }
 
 /// Pages that look like files and fields.
-fn fields(_: &mut Random, length: usize) -> Vec<u8> {
+pub fn fields(_: &mut Random, length: usize) -> Vec<u8> {
     FIELDS.into_iter().cycle().take(length).collect()
 }
 
@@ -75,15 +75,15 @@ fn any_count(random: &mut Random) -> usize {
     }
 }
 
-/// Pages that a file takes.
-pub fn any_pages(random: &mut Random) -> Vec<u8> {
-    let count = any_count(random);
+/// Pages that a file takes, this many at least.
+pub fn any_pages(random: &mut Random, least: usize) -> Vec<u8> {
+    let count = any_count(random).max(least);
     random.pick(&CONTENTS)(random, SMALL.bytes * count)
 }
 
 /// A call with any length classes.
 pub fn any_file_call(random: &mut Random) -> Call {
-    let mut pages = any_pages(random);
+    let mut pages = any_pages(random, 0);
     if random.one_in(8) {
         let length = wrong_pages_length(random);
         pages = random.pick(&CONTENTS)(random, length);

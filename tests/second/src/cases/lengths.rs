@@ -1,6 +1,7 @@
 //! The length classes of pages, data, records, outputs and the pages of a file.
 
 use super::files::{any_bytes, ones, zeros, Contents};
+use super::reading::bytes_read;
 use crate::call::Entry;
 use crate::file::file_bytes;
 use crate::page::length_of;
@@ -120,7 +121,7 @@ fn output_length(random: &mut Random, needed: usize) -> usize {
     random.pick(&[needed.saturating_sub(1), needed, needed + 1, longer, 0, any])
 }
 
-/// A length for the other buffer of a page entry, or of write file. A page of neither size goes by the smaller one.
+/// A length for the other buffer of a page entry, or of one of files. A page of neither size goes by the smaller one.
 pub fn other_length(random: &mut Random, entry: Entry, page: &[u8]) -> usize {
     let shape = Shape::of(page).unwrap_or(SMALL);
     match entry {
@@ -130,6 +131,7 @@ pub fn other_length(random: &mut Random, entry: Entry, page: &[u8]) -> usize {
         Entry::WriteInspect => record_length(random, shape.inspect_bytes_sure(), shape.inspect_bytes_most),
         Entry::ReadSecond | Entry::ReadInspect => output_length(random, record_named(page)),
         Entry::WriteFile => output_length(random, file_bytes(page.len() / SMALL.bytes)),
+        Entry::ReadFile => output_length(random, bytes_read(page)),
         _ => 0,
     }
 }

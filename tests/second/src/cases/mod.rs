@@ -6,6 +6,7 @@ pub mod files;
 pub mod inspect;
 pub mod lengths;
 pub mod pages;
+pub mod reading;
 pub mod systematic;
 pub mod words;
 
@@ -20,6 +21,8 @@ pub fn any_call(random: &mut Random) -> Call {
         damage::any_combined(random, entry)
     } else if entry == Entry::WriteFile {
         files::any_file_call(random)
+    } else if entry == Entry::ReadFile {
+        reading::any_reading_call(random)
     } else if entry.takes_page() {
         any_page_call(random, entry)
     } else {

@@ -1,10 +1,12 @@
 //! The fixed part of the differential run: it walks states, header bytes, words, the ends of words, lengths and refusals of
-//! pages of both sizes one by one, pages as versions before Change 6 left them, records by the Inspect code, and files.
+//! pages of both sizes one by one, pages as versions before Change 6 left them, records by the Inspect code, and files that
+//! are written and read.
 
 mod earlier;
 mod files;
 mod inspect;
 mod lengths;
+mod reading;
 #[cfg(test)]
 mod tests;
 
@@ -41,8 +43,13 @@ struct Walk {
     inspect: Vec<u8>,
 }
 
-/// All systematic calls.
-pub fn calls() -> Vec<Call> {
+/// All systematic calls; the files with one byte changed come last, and are made one by one.
+pub fn calls() -> impl Iterator<Item = Call> {
+    walked().into_iter().chain(reading::changes())
+}
+
+/// The systematic calls but for those files.
+fn walked() -> Vec<Call> {
     let [mut small, mut large] = Shape::BOTH.map(Walk::new);
     small.values();
     small.words();
@@ -54,6 +61,7 @@ pub fn calls() -> Vec<Call> {
         walk.refusals();
     }
     small.files_of_every_kind();
+    small.readings_of_every_kind();
     Entry::ALL.into_iter().filter(|entry| !entry.takes_page()).for_each(|entry| small.refusals_of(entry));
     small.calls.extend(large.calls);
     small.calls

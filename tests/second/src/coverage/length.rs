@@ -13,7 +13,7 @@ const ONE_BYTE_MOST: usize = 255;
 
 /// How long an output is, compared with what goes in.
 #[derive(Clone, Copy, PartialEq, Eq, Hash)]
-enum Output {
+pub enum Output {
     Empty,
     OneShort,
     Exact,
@@ -21,9 +21,9 @@ enum Output {
 }
 
 impl Output {
-    const ALL: [Output; 4] = [Output::Empty, Output::OneShort, Output::Exact, Output::Longer];
+    pub const ALL: [Output; 4] = [Output::Empty, Output::OneShort, Output::Exact, Output::Longer];
 
-    fn name(self) -> &'static str {
+    pub fn name(self) -> &'static str {
         match self {
             Output::Empty => "empty",
             Output::OneShort => "one short",
@@ -33,7 +33,7 @@ impl Output {
     }
 
     /// Where one byte goes in, an output of none is one short.
-    fn of(length: usize, needed: usize) -> Option<Output> {
+    pub fn of(length: usize, needed: usize) -> Option<Output> {
         match length {
             0 if needed > 1 => Some(Output::Empty),
             _ if length + 1 == needed => Some(Output::OneShort),

@@ -281,24 +281,17 @@ mod tests {
     use crate::answer::{number, Answer, Refusal};
     use crate::inspect::{walks_of, without_pairs, Step};
     use crate::page::{length_of, FIRST_ROUND};
+    use crate::vectors::tests::performed;
     use crate::word::{has_neighbours, sum, LAST_CELL};
     use std::collections::HashSet;
-    use std::sync::OnceLock;
+    use std::sync::LazyLock;
 
-    /// Each call before and after its performance, and its answer.
-    fn performed() -> &'static [(Call, Call, Answer)] {
-        static PERFORMED: OnceLock<Vec<(Call, Call, Answer)>> = OnceLock::new();
-        let perform = |call: Call| {
-            let mut after = call.clone();
-            let answer = after.perform();
-            (call, after, answer)
-        };
-        PERFORMED.get_or_init(|| calls().into_iter().map(perform).collect())
-    }
+    /// The calls, performed once for all tests.
+    static PERFORMED: LazyLock<Vec<(Call, Call, Answer)>> = LazyLock::new(|| performed(calls()));
 
     /// The calls of the entry.
     fn of_entry(entry: Entry) -> impl Iterator<Item = &'static (Call, Call, Answer)> {
-        performed().iter().filter(move |(call, ..)| call.entry == entry)
+        PERFORMED.iter().filter(move |(call, ..)| call.entry == entry)
     }
 
     /// The pages of accepted calls of the entry with their records, as they are after the call.
@@ -334,7 +327,7 @@ mod tests {
     /// What is accepted by the writer is read back right after it, into an output of just its length.
     #[test]
     fn outcomes_are_read_back() {
-        let pairs = performed().windows(2).filter(|two| two[0].0.entry == Entry::WriteInspect && two[0].2.is_ok());
+        let pairs = PERFORMED.windows(2).filter(|two| two[0].0.entry == Entry::WriteInspect && two[0].2.is_ok());
         let back = pairs.filter(|two| two[1].0.entry == Entry::ReadInspect && two[1].0.page == two[0].1.page);
         let same: Vec<bool> = back.map(|two| two[1].1.other == two[0].0.other).collect();
         assert!(same.len() > 60 && !same.contains(&false), "{}", same.len());
@@ -473,7 +466,7 @@ mod tests {
             assert!(met.iter().any(|(header, number)| byte_1(header) && *number == 6));
             assert!(met.iter().any(|(header, number)| byte_2(header) && *number == 6));
         }
-        let others = performed().iter().filter(|(call, ..)| !Entry::OF_INSPECT.contains(&call.entry));
+        let others = PERFORMED.iter().filter(|(call, ..)| !Entry::OF_INSPECT.contains(&call.entry));
         let refused: HashSet<_> =
             others.map(|(call, _, answer)| (call.entry.number(), call.page[0], number(*answer))).collect();
         assert_eq!(refused, HashSet::from([(4, 9, 4), (5, 9, 5), (6, 9, 5), (7, 9, 5), (8, 9, 5), (10, 9, 5)]));

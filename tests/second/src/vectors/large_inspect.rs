@@ -192,23 +192,16 @@ mod tests {
     use crate::cases::inspect::byte_ends;
     use crate::coverage::Coverage;
     use crate::page::{length_of, longest_named};
+    use crate::vectors::tests::performed;
     use std::collections::HashSet;
-    use std::sync::OnceLock;
+    use std::sync::LazyLock;
 
-    /// Each call before and after its performance, and its answer.
-    fn performed() -> &'static [(Call, Call, Answer)] {
-        static PERFORMED: OnceLock<Vec<(Call, Call, Answer)>> = OnceLock::new();
-        let perform = |call: Call| {
-            let mut after = call.clone();
-            let answer = after.perform();
-            (call, after, answer)
-        };
-        PERFORMED.get_or_init(|| calls().into_iter().map(perform).collect())
-    }
+    /// The calls, performed once for all tests.
+    static PERFORMED: LazyLock<Vec<(Call, Call, Answer)>> = LazyLock::new(|| performed(calls()));
 
     /// The calls of the entry with a page of this shape.
     fn of_entry(entry: Entry, shape: Shape) -> impl Iterator<Item = &'static (Call, Call, Answer)> {
-        performed().iter().filter(move |(call, ..)| call.entry == entry && call.page.len() == shape.bytes)
+        PERFORMED.iter().filter(move |(call, ..)| call.entry == entry && call.page.len() == shape.bytes)
     }
 
     /// Each entry of the Inspect code is accepted on 512 bytes, and refused by each of its numbers but 1.
@@ -242,7 +235,7 @@ mod tests {
     /// Records of each length at an end are written, with the length in both bytes, and read back right after it.
     #[test]
     fn records_at_the_ends() {
-        let pairs = performed().windows(2).filter(|two| two[0].0.entry == Entry::WriteInspect && two[0].2.is_ok());
+        let pairs = PERFORMED.windows(2).filter(|two| two[0].0.entry == Entry::WriteInspect && two[0].2.is_ok());
         let back = pairs.filter(|two| two[1].0.entry == Entry::ReadInspect && two[1].0.page == two[0].1.page);
         let read: Vec<_> = back.map(|two| (&two[0].0.other, &two[1].1.other, &two[0].1.page[..3])).collect();
         assert!(read.iter().all(|(written, read, _)| written == read));
@@ -274,7 +267,7 @@ mod tests {
     #[test]
     fn counters_of_a_run() {
         let mut coverage = Coverage::new();
-        performed().iter().for_each(|(call, _, answer)| coverage.count(call, Place::Canaries, *answer));
+        PERFORMED.iter().for_each(|(call, _, answer)| coverage.count(call, Place::Canaries, *answer));
         let met: HashSet<String> =
             coverage.wanted().into_iter().filter(|(_, met)| *met > 0).map(|(name, _)| name).collect();
         let both = ["a word of 23 bits", "a word of 45 bits"].map(|name| format!("accepted, {name}"));

@@ -30,10 +30,15 @@ impl Walk {
         }
     }
 
-    /// Every device number with one bit set, the listed ones and any, in files of no page and of one.
-    fn devices(&mut self) {
+    /// Every device number with one bit set, the listed ones and any.
+    pub fn every_device(&mut self) -> Vec<u32> {
         let any = self.random.draw() as u32;
-        for device in (0..32).map(|bit| 1 << bit).chain(DEVICES).chain([any, !any]) {
+        (0..32).map(|bit| 1 << bit).chain(DEVICES).chain([any, !any]).collect()
+    }
+
+    /// Each of these device numbers in files of no page and of one.
+    fn devices(&mut self) {
+        for device in self.every_device() {
             self.file(device, &[], file_bytes(0));
             self.file(device, &self.first.clone(), file_bytes(1));
         }
