@@ -388,8 +388,8 @@ mod tests {
         assert!((0..=255).all(|tag| known(&tag) == Kind::of(tag).is_some()));
     }
 
-    /// "a tag that is out of sequence or unknown is 15, any other is 14", of a file's last byte; and the same with one byte of
-    /// a length: even one that is wrong already is no length yet.
+    /// "If the file's last byte is a tag, it is 15 where the tag is unknown or out of sequence, else 14. After a tag that has
+    /// its place, one byte of a length alone is 14, whatever that byte is."
     #[test]
     fn the_last_byte_of_a_file() {
         let [nothing, device, one, many, most] = stages();

@@ -37,7 +37,7 @@ impl Script {
         self.add(Call::of_reading(file.to_vec(), output));
     }
 
-    /// A call with a file that is refused, and a few bytes of output.
+    /// A call with a file that is refused or has no page, and a few bytes of output.
     fn read_parts(&mut self, parts: &[&[u8]]) {
         self.read(&parts.concat(), self.calls.len() % 9);
     }
