@@ -19,7 +19,7 @@ use Rattle.receive.specs.declared.fields.Field.{Field}
 use Rattle.receive.specs.declared.fields.FieldKind.{FieldKind}
 use Rattle.receive.specs.declared.fields.FieldKind.the-variants.{Page}
 use Rattle.receive.proofs.Judging.{Tagged, tagged, sort-01, sort-at, start-short, not-a-result}
-use Rattle.receive.proofs.Walking.{Sound, field-sound, read-whole, Stands, stands-first, stands-refused, further, after-device, Paged, after-page, after-skipped, after-end}
+use Rattle.receive.proofs.Walking.{onward, Sound, field-sound, read-whole, Stands, stands-first, stands-refused, further, after-device, Paged, after-page, after-skipped, after-end}
 
 -- ---- pages are only added
 
@@ -65,7 +65,7 @@ grown (suc m) s d P f t e = go (answer (fieldChecks s f) (contentsIn f)) refl (�
 
     go : (a : AnswerOf (List ℕ)) → answer (fieldChecks s f) (contentsIn f) ≡ a
         → ((s' d' : ℕ) (P' f' : List ℕ) → fieldsRead m s' d' P' f' ≡ result t → Grown P' t)
-        → andThen a (λ (c : List ℕ). nextRead (fieldsRead m) (sortIn f) s d P c (behind f)) ≡ result t → Grown P t
+        → onward m s d P f a ≡ result t → Grown P t
     go (result c) ea ih h = let so = field-sound s f (contentsIn f) c ea in by (sortIn f) c (behind f) refl (so .0) (so .1) ih h
     go (refusal n i) ea ih h = not-a-result n i t h
 

@@ -22,9 +22,9 @@ use Rattle.receive.specs.Grammar as grammar
 use Rattle.receive.specs.Faults.{InPlace, Fault, nothing, no-length, wrong-length, no-contents, trailing, Broken, wrong-start, at-field}
 use Rattle.receive.specs.Faults as faults
 use Rattle.receive.specs.Field.{Sort, device, page, end, passedOver, unknown, isUnknown, inPlace, least, most, sortIn, lengthIn, contentsIn, behind}
-use Rattle.receive.specs.Read.{lengthChecks, fieldChecks, andThen, afterEnd, nextRead, fieldsRead, fieldsTold, fileTold, wrongStart, Told}
+use Rattle.receive.specs.Read.{lengthChecks, fieldChecks, afterEnd, nextRead, fieldsRead, fieldsTold, fileTold, wrongStart, Told}
 use Rattle.receive.proofs.Judging.{head-cut, too-short, too-long, contents-cut, nothing-there, other-tag, no-place, placed, sort-02, sort-01, sort-7F, page-in, page-place, bytes-after, not-a-result}
-use Rattle.receive.proofs.Walking.{Sound, field-sound}
+use Rattle.receive.proofs.Walking.{onward, Sound, field-sound}
 use Rattle.receive.proofs.Grammar.{front-turn, read-passed, as-tagged, as-field, size-is, passed-is, device-forth, device-back, empty, start-there, start-right}
 
 -- ---- from a fault to the refusal
@@ -34,7 +34,7 @@ refused-there : (m s d : ℕ) (P g : List ℕ) (n : ℕ) → 0 < length g → le
     → fieldsRead m s d P g ≡ refusal n 0
 unfolding fieldsRead
 refused-there zero s d P g n h l e = absurd (omega arith)
-refused-there (suc m) s d P g n h l e = ap (λ (a : AnswerOf (List ℕ)). andThen a (λ (c : List ℕ). nextRead (fieldsRead m) (sortIn g) s d P c (behind g))) e
+refused-there (suc m) s d P g n h l e = ap (onward m s d P g) e
 
 module _ (s : ℕ) (g : List ℕ) (p : InPlace s g) where
   sized : answer (fieldChecks s g) (contentsIn g) ≡ answer (lengthChecks (least (sortIn g)) (most (sortIn g)) g) (contentsIn g)
@@ -45,7 +45,7 @@ pub fault-refused : {n s : ℕ} {g : List ℕ} → Fault n s g → (m d : ℕ) (
 unfolding fieldsRead nextRead inPlace least most endField
 fault-refused {s = s} nothing zero d P l = refl
 fault-refused {s = s} nothing (suc m) d P l =
-    ap (λ (a : AnswerOf (List ℕ)). andThen a (λ (c : List ℕ). nextRead (fieldsRead m) (sortIn []) s d P c (behind []))) (nothing-there s 0 [] (contentsIn []) (omega arith))
+    ap (onward m s d P []) (nothing-there s 0 [] (contentsIn []) (omega arith))
 fault-refused {s = s} {g = g} (faults.other-tag h u) m d P l = refused-there m s d P g 15 h l (other-tag s 0 g (contentsIn g) h (unknown-is (sortIn g) u))
   where
     unknown-is : (t : Sort) → isUnknown t ≡ true → t ≡ unknown
@@ -114,11 +114,11 @@ unfolding fieldsRead nextRead
 enough-turns zero zero s d P g a b = refl
 enough-turns zero (suc k) s d P g a b =
     let e : g ≡ [] = empty g (omega arith) in
-    sym (ap (λ (x : AnswerOf (List ℕ)). andThen x (λ (c : List ℕ). nextRead (fieldsRead k) (sortIn g) s d P c (behind g)))
+    sym (ap (onward k s d P g)
     (ap (λ (y : List ℕ). answer (fieldChecks s y) (contentsIn g)) e ∙ nothing-there s 0 [] (contentsIn g) (omega arith)))
 enough-turns (suc m) zero s d P g a b =
     let e : g ≡ [] = empty g (omega arith) in
-    ap (λ (x : AnswerOf (List ℕ)). andThen x (λ (c : List ℕ). nextRead (fieldsRead m) (sortIn g) s d P c (behind g)))
+    ap (onward m s d P g)
     (ap (λ (y : List ℕ). answer (fieldChecks s y) (contentsIn g)) e ∙ nothing-there s 0 [] (contentsIn g) (omega arith))
 enough-turns (suc m) (suc k) s d P g a b = go (answer (fieldChecks s g) (contentsIn g)) refl (λ s' d' P' f' u v. enough-turns m k s' d' P' f' u v)
   where
@@ -132,7 +132,7 @@ enough-turns (suc m) (suc k) s d P g a b = go (answer (fieldChecks s g) (content
 
     go : (x : AnswerOf (List ℕ)) → answer (fieldChecks s g) (contentsIn g) ≡ x
         → ((s' d' : ℕ) (P' f' : List ℕ) → length f' ≤ m → length f' ≤ k → fieldsRead m s' d' P' f' ≡ fieldsRead k s' d' P' f')
-        → andThen x (λ (c : List ℕ). nextRead (fieldsRead m) (sortIn g) s d P c (behind g)) ≡ andThen x (λ (c : List ℕ). nextRead (fieldsRead k) (sortIn g) s d P c (behind g))
+        → onward m s d P g x ≡ onward k s d P g x
     go (result c) e ih = by (sortIn g) c (field-sound s g (contentsIn g) c e .0) ih
     go (refusal i j) e ih = refl
 
@@ -280,7 +280,7 @@ found-fault (suc m) s d P x g n k f b l e =
 
     go : (a : AnswerOf (List ℕ)) → answer (fieldChecks s g) (contentsIn g) ≡ a
         → ((s' d' : ℕ) (P' x' g' : List ℕ) → Fields s' x' → Bytes g' → length g' ≤ m → fieldsRead m s' d' P' g' ≡ refusal n k → Found n k (x' ++ g'))
-        → andThen a (λ (c : List ℕ). nextRead (fieldsRead m) (sortIn g) s d P c (behind g)) ≡ refusal n k → Found n k (x ++ g)
+        → onward m s d P g a ≡ refusal n k → Found n k (x ++ g)
     go (result c) ea ih h =
         let so = field-sound s g (contentsIn g) c ea in
         by (sortIn g) refl (so .0) ih (ap (λ (y : List ℕ). nextRead (fieldsRead m) (sortIn g) s d P y (behind g)) (sym (so .1)) ∙ h)

@@ -20,9 +20,9 @@ use Rattle.transfer.proofs.Fields.{head-bytes, length-field}
 use Rattle.receive.specs.Grammar.{PassedOver, After, ended, paged, passed, Before, Holds}
 use Rattle.receive.specs.Grammar as grammar
 use Rattle.receive.specs.Field.{Sort, device, page, end, passedOver, unknown, sortOf, isUnknown, inPlace, least, most, sortIn, lengthIn, contentsIn, behind}
-use Rattle.receive.specs.Read.{fieldChecks, andThen, afterEnd, nextRead, fieldsRead, fieldsTold, fileTold, wrongStart, Told}
+use Rattle.receive.specs.Read.{fieldChecks, afterEnd, nextRead, fieldsRead, fieldsTold, fileTold, wrongStart, Told}
 use Rattle.receive.proofs.Judging.{Tagged, tagged, sort-02, sort-01, sort-7F, sort-passed, page-in, page-place, end-reached, not-a-result}
-use Rattle.receive.proofs.Walking.{Sound, field-sound, sound-field}
+use Rattle.receive.proofs.Walking.{onward, Sound, field-sound, sound-field}
 
 -- ---- a field in front of further bytes
 
@@ -69,7 +69,7 @@ module _ (tag : ℕ) (c r : List ℕ) (h : length c < 65536) where
         to = subst (λ (v : Sort). lengthIn f ≤ most v) (sym es) (omega (arith, front-told));
         there = omega (arith, front-told, front-length);
       } in
-      ap (λ (a : AnswerOf (List ℕ)). andThen a (λ (k : List ℕ). nextRead (fieldsRead m) (sortIn f) s d P k (behind f))) (sound-field s f (contentsIn f) so)
+      ap (onward m s d P f) (sound-field s f (contentsIn f) so)
       ∙ ap₂ (λ (v : Sort) (k : List ℕ). nextRead (fieldsRead m) v s d P k (behind f)) es front-contents
       ∙ ap (λ (l : List ℕ). nextRead (fieldsRead m) t s d P c l) front-behind
 
@@ -222,7 +222,7 @@ found-after (suc m) s k d P f t ek b e =
     by unknown eu so ih h = not-a-result 15 0 t h
 
     go : (a : AnswerOf (List ℕ)) → answer (fieldChecks (suc s) f) (contentsIn f) ≡ a → Further m d t
-        → andThen a (λ (c : List ℕ). nextRead (fieldsRead m) (sortIn f) (suc s) d P c (behind f)) ≡ result t → FoundAfter k d P f t
+        → onward m (suc s) d P f a ≡ result t → FoundAfter k d P f t
     go (result c) ea ih h =
         let so = field-sound (suc s) f (contentsIn f) c ea in
         by (sortIn f) refl (so .0) ih (ap (λ (x : List ℕ). nextRead (fieldsRead m) (sortIn f) (suc s) d P x (behind f)) (sym (so .1)) ∙ h)
@@ -266,7 +266,7 @@ found-before (suc m) e f t b h = go (answer (fieldChecks 0 f) (contentsIn f)) re
     by unknown eu so ih g = not-a-result 15 0 t g
 
     go : (a : AnswerOf (List ℕ)) → answer (fieldChecks 0 f) (contentsIn f) ≡ a → ((f' : List ℕ) → Bytes f' → fieldsRead m 0 e [] f' ≡ result t → FoundBefore f' t)
-        → andThen a (λ (c : List ℕ). nextRead (fieldsRead m) (sortIn f) 0 e [] c (behind f)) ≡ result t → FoundBefore f t
+        → onward m 0 e [] f a ≡ result t → FoundBefore f t
     go (result c) ea ih g =
         let so = field-sound 0 f (contentsIn f) c ea in
         by (sortIn f) refl (so .0) ih (ap (λ (x : List ℕ). nextRead (fieldsRead m) (sortIn f) 0 e [] x (behind f)) (sym (so .1)) ∙ g)

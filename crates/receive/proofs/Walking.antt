@@ -53,6 +53,10 @@ module _ {A : Type 0} (s : ℕ) (f : List ℕ) (x : A) where
       (taken (itself (isUnknown t)) 15 0 _ x x (taken (opposite (inPlace t s)) 15 0 (lengthChecks (least t) (most t) f) x x (length-taken (least t) (most t) f x x))) .1
       (ne-eqb (length f) 0 (λ q. omega (arith, h .there)), (h .known, (h .place, (omega (arith, h .there), (h .from, h .to), h .there, refl))))
 
+-- what the reader makes of a field's answer
+abbrev pub onward : ℕ → ℕ → ℕ → List ℕ → List ℕ → AnswerOf (List ℕ) → AnswerOf Told
+onward m s d P f a = andThen a (λ (c : List ℕ). nextRead (fieldsRead m) (sortIn f) s d P c (behind f))
+
 -- a field that was read is whole, and it is the one at its offset
 pub read-whole : (file : List ℕ) (i s : ℕ) (f : Field) → fieldAt file i s ≡ result f
     → Sound s (drop i file) × (f ≡ fieldOf (i + 3 + lengthIn (drop i file)) (kindAt (sortIn (drop i file)) file i))
@@ -107,7 +111,7 @@ module _ (file : List ℕ) (i s d : ℕ) (P : List ℕ) (w : Stands file i s d P
       go zero l q =
           same-numbers {A = Field} {B = Told} (sym e ∙ nothing-there s i file _ (omega arith)) ∙ l
       go (suc m) l q =
-          sym (ap (λ (x : AnswerOf (List ℕ)). andThen x (λ (c : List ℕ). nextRead (fieldsRead m) (sortIn g) s d P c (behind g))) (same-refusal (fieldChecks s g) _ (contentsIn g) a b e))
+          sym (ap (onward m s d P g) (same-refusal (fieldChecks s g) _ (contentsIn g) a b e))
           ∙ l
 
   -- a field that was read
@@ -151,7 +155,7 @@ module _ (file : List ℕ) (i s d : ℕ) (P : List ℕ) (w : Stands file i s d P
           left-turns = m;
           gone =
               ap (nextRead (fieldsRead m) (sortIn g) s d P (contentsIn g)) (sym rest-is)
-              ∙ sym (ap (λ (a : AnswerOf (List ℕ)). andThen a (λ (c : List ℕ). nextRead (fieldsRead m) (sortIn g) s d P c (behind g))) (sound-field s g (contentsIn g) ok))
+              ∙ sym (ap (onward m s d P g) (sound-field s g (contentsIn g) ok))
               ∙ l;
           still = omega (arith, further .0);
         }

@@ -55,8 +55,8 @@ pub record FileReading : Type 0 where
       → readFileLeaves file out ≡ P ++ drop (length P) out
   -- ---- what goes in and comes back
 
-  -- "What Change 1 writes must come back as the same pages in the same sequence, and the device number": the v bytes that the writer put into
-  -- any room, read into any output that the pages fit
+  -- "What Change 1 writes must come back as the same pages in the same sequence, and the device number": the v bytes that the writer put
+  -- into any room, read into any output that the pages fit
   pub comes-back : (d v : ℕ) (P room out : List ℕ) → d < 2 ^ 32 → writeFileAnswer d P room ≡ result v → length P ≤ length out
       → (readFileAnswer (take v (writeFileLeaves d P room)) out ≡ result (d, length P / 256))
       × (readFileLeaves (take v (writeFileLeaves d P room)) out ≡ P ++ drop (length P) out)

@@ -1,4 +1,5 @@
--- What is wrong with a file that is refused by 14, 15 or 16 (document 02, Change 10), and where: the first field at which it is not in order.
+-- What is wrong with a file that is refused by 14, 15 or 16 (document 02, Change 10), and where: the first field at which it is not in
+-- order.
 -- Assumes nothing.
 use mathlib.Core.Bool.{true, false}
 use mathlib.Core.List.{List, [], _++_}

@@ -28,8 +28,8 @@ isUnknown page = false
 isUnknown end = false
 isUnknown passedOver = false
 
--- its place in the sequence, after s fields that were not passed over: "The device number is the first field not passed over", then the pages
--- and the end, and "a 65th page has none"
+-- its place in the sequence, after s fields that were not passed over: "The device number is the first field not passed over", then the
+-- pages and the end, and "a 65th page has none"
 unfoldable pub inPlace : Sort → ℕ → Bool
 inPlace device s = eqb s 0
 inPlace page s = leb 1 s && leb s mostPages

@@ -1,5 +1,5 @@
--- What the reader of a transfer file answers and what it leaves in its output (document 02, Change 10), and the paper's number and values for
--- each case of its enums.
+-- What the reader of a transfer file answers and what it leaves in its output (document 02, Change 10), and the paper's number and values
+-- for each case of its enums.
 -- Assumes nothing.
 use mathlib.Core.Bool.{Bool, cond, not, _||_}
 use mathlib.Core.List.{List, [], _∷_, _++_}
@@ -50,6 +50,15 @@ kindAt unknown file i = Skipped
 abbrev pub fieldOf : ℕ → FieldKind → Field
 fieldOf n k = record { next = n; kind = k }
 
+-- by its length and contents alone: where the next one starts; and the field of a device number
+abbrev pub spanAt : ℕ → ℕ → List ℕ → ℕ → AnswerOf ℕ
+spanAt a z file i = answer (lengthChecks a z (drop i file)) (i + 3 + lengthIn (drop i file))
+
+abbrev pub deviceAt : List ℕ → ℕ → AnswerOf Field
+deviceAt file i =
+    answer (lengthChecks deviceBytes deviceBytes (drop i file)) (fieldOf (i + 3 + lengthIn (drop i file)) (kindAt device file i))
+
+-- after s fields that were not passed over
 unfoldable pub fieldAt : List ℕ → ℕ → ℕ → AnswerOf Field
 fieldAt file i s =
     answer (fieldChecks s (drop i file)) (fieldOf (i + 3 + lengthIn (drop i file)) (kindAt (sortIn (drop i file)) file i))
@@ -88,8 +97,8 @@ nextRead go end s d P c r = answer (afterEnd r) (d, P)
 nextRead go passedOver s d P c r = go s d P r
 nextRead go unknown s d P c r = refusal 15 0
 
--- The fields f, one after another, after s fields that were not passed over. Each takes three bytes at least, so that a turn for each byte is
--- enough (the first argument).
+-- The fields f, one after another, after s fields that were not passed over. Each takes three bytes at least, so that a turn for each byte
+-- is enough (the first argument).
 unfoldable pub fieldsRead : ℕ → ℕ → ℕ → List ℕ → List ℕ → AnswerOf Told
 fieldsRead zero s d P f = refusal 14 0
 fieldsRead (suc n) s d P f = andThen (answer (fieldChecks s f) (contentsIn f)) (λ (c : List ℕ). nextRead (fieldsRead n) (sortIn f) s d P c (behind f))

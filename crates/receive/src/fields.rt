@@ -9,14 +9,10 @@ use transfer::PAGE_BYTES;
 use transfer::PAGE_TAG;
 ghost use mathlib.Core.Path.{_≡_};
 ghost use Prim.Native.Nat.{_+_, _^_, _≤_, _<_};
-ghost use lib.ListN.{length, take, drop};
-ghost use Rattle.cells.specs.Cells.{number};
-ghost use Rattle.cells.specs.Bytes.{bits};
-ghost use Rattle.answer.specs.Answer.{result, answer};
-ghost use Rattle.transfer.specs.File.{deviceBytes};
+ghost use lib.ListN.{length, drop};
+ghost use Rattle.answer.specs.Answer.{result};
 ghost use Rattle.receive.specs.Field.{lengthIn};
-ghost use Rattle.receive.specs.Read.{lengthChecks, fieldOf, fieldAt, andThen, spanCode, fieldReadCode};
-ghost use Rattle.receive.specs.declared.fields.FieldKind.the-variants.{Device};
+ghost use Rattle.receive.specs.Read.{fieldOf, spanAt, deviceAt, fieldAt, andThen, spanCode, fieldReadCode};
 
 // What a field is: the device number, a page with the offset of its bytes, the end, or one that is passed over.
 pub enum FieldKind {
@@ -60,7 +56,7 @@ pub fn length_at(file: &[u8], at: usize) -> usize
 // The span of the field at byte `at`, whose length must be from `least` to `most`.
 fn span_of(file: &[u8], at: usize, least: usize, most: usize) -> Span
     requires { ⌜ at ≤ length (now file) ⌝ }
-    ensures { λ r. ⌜ spanCode r ≡ answer (lengthChecks least most (drop at (now (file .entry)))) (at + 3 + lengthIn (drop at (now (file .entry)))) ⌝ }
+    ensures { λ r. ⌜ spanCode r ≡ spanAt least most (now (file .entry)) at ⌝ }
 {
     if file.len() - at < 3 {
         return Span::Missing;
@@ -81,7 +77,7 @@ fn span_of(file: &[u8], at: usize, least: usize, most: usize) -> Span
 // The field of a device number at byte `at`.
 fn read_device(file: &[u8], at: usize) -> FieldRead
     requires { ⌜ at ≤ length (now file) ⌝ }
-    ensures { λ r. ⌜ fieldReadCode r ≡ answer (lengthChecks deviceBytes deviceBytes (drop at (now (file .entry)))) (fieldOf (at + 3 + lengthIn (drop at (now (file .entry)))) (Device (number (bits (take deviceBytes (drop (at + 3) (now (file .entry)))))))) ⌝ }
+    ensures { λ r. ⌜ fieldReadCode r ≡ deviceAt (now (file .entry)) at ⌝ }
 {
     let n = DEVICE_BYTES as usize;
     let s = span_of(file, at, n, n);

@@ -98,8 +98,8 @@ fn judge(file: &[u8]) -> FileRead
     }
 }
 
-// Copies the n pages of a file that was judged to the start of the output: its fields are in order up to the last page, so that their tags and
-// lengths are enough.
+// Copies the n pages of a file that was judged to the start of the output: its fields are in order up to the last page, so that their tags
+// and lengths are enough.
 fn copy_pages(out: &mut [u8], file: &[u8], n: usize)
     requires { ⌜ (2 ≤ length (now file)) × (256 * n ≤ length (now out)) × Counts n (fieldsTold (now file)) ⌝ }
     ensures { λ _. ⌜ now (out .exit) ≡ sets (now (out .entry)) 0 (pagesTold (fieldsTold (now (file .entry)))) ⌝ }

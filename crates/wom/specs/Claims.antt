@@ -1,5 +1,6 @@
 -- Every answer of every entry can be taken apart: no result and no index runs into the refusal's number, and the two parts of the word
--- fill's result, the word and the pulses, and of read file's, the device number and the pages, can be told apart. proofs/Claims.antt proves it.
+-- fill's result, the word and the pulses, and of read file's, the device number and the pages, can be told apart. proofs/Claims.antt proves
+-- it.
 -- Assumes nothing.
 use mathlib.Core.List.{List}
 use Prim.Native.Nat.{ℕ}

@@ -8,7 +8,7 @@ use Rattle.cells.specs.Cells.{number}
 use Rattle.cells.specs.Bytes.{bits}
 use Rattle.cells.proofs.Runs.{window-lt}
 use Rattle.answer.specs.Answer.{result}
-use Rattle.receive.specs.Read.{andThen, spanCode, fieldOf}
+use Rattle.receive.specs.Read.{kindAt, andThen, spanCode, fieldOf}
 use Rattle.receive.specs.declared.fields.Field.{Field}
 use Rattle.receive.specs.declared.fields.FieldKind.the-variants.{Device}
 use Rattle.receive.specs.declared.fields.Span.{Span}
@@ -45,6 +45,7 @@ enum-told-2 : tie.Need-enum-told-2
 enum-told-2 c = search needs
 
 returns : tie.Need-returns
+unfolding kindAt
 returns c =
     let found = c .before .before in
     let a = found .before .before .before .before .args in
@@ -55,6 +56,7 @@ returns c =
     ∙ carried _ _ (λ (n : ℕ). fieldOf n k) (found .before .before .span-of .result) (found .before .before .span-of .ensures)
 
 returns-2 : tie.Need-returns-2
+unfolding kindAt
 returns-2 c =
     let s = c .before .before in
     let a = s .before .before .args in
@@ -62,6 +64,7 @@ returns-2 c =
     ap (λ (w : Span). andThen (spanCode w) (λ (n : ℕ). result (g n))) (sym (c .enum-told .given .1)) ∙ carried _ _ g (s .span-of .result) (s .span-of .ensures)
 
 returns-3 : tie.Need-returns-3
+unfolding kindAt
 returns-3 c =
     let s = c .before .before in
     let a = s .before .before .args in
