@@ -37,7 +37,7 @@ demo: archive ## proves the library, and shows a page's life on a model of the p
 	@printf '\nThe pages at the office, listed:\n'
 	@target/bin/listing <target/demo/office.bin
 
-test: ## the gate: removes target/, proves every crate, tries the must-fail edits, runs the tests: about 26 minutes
+test: ## the gate: removes target/, proves every crate, tries the must-fail edits, runs the tests: about half an hour
 	.ci/run
 
 # The old archive goes first, so that none is left where this fails.
