@@ -79,7 +79,7 @@ sort-of-kind passedOver file i e = refl
 sort-of-kind unknown file i e = absurd (subst T e tt)
 
 -- refusals are equal by their numbers, whatever the result would be
-pub same-numbers : {A B : Type 0} {a b c d : ℕ} → _≡_ {A = AnswerOf A} (refusal a b) (refusal c d) → _≡_ {A = AnswerOf B} (refusal a b) (refusal c d)
+same-numbers : {A B : Type 0} {a b c d : ℕ} → _≡_ {A = AnswerOf A} (refusal a b) (refusal c d) → _≡_ {A = AnswerOf B} (refusal a b) (refusal c d)
 same-numbers {a = a} {b = b} {c = c} {d = d} e = let p : a ≡ c = cc in let q : b ≡ d = cc in rw (p, q) refl
 
 -- ---- where the reader stands
