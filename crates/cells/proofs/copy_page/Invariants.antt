@@ -1,0 +1,15 @@
+-- `cells::copy_page` meets its contract: after j turns the first j bytes are stored. Assumes nothing.
+use mathlib.Core.List.{List}
+use mathlib.Core.Path.{◌≡◌, refl, sym, ap, ap₂, ◌∙◌}
+use Prim.Native.Nat.{ℕ, ◌+◌, ◌-◌, ◌≤◌}
+use native.Mathlib.Omega.{arith}
+use lib.ListN.{length, take, drop, set, get_or, length-set, length-drop}
+use lib.Seq.{sets, take-take, length-take-le, get_or-take, get_or-drop}
+use Rattle.cells.proofs.Storing.{sets_turn}
+use Rattle.cells.proofs.copy_page.Given as goal
+
+abbrev pub invariant-loop-j : goal.invariant-loop-j
+invariant-loop-j l = (l.j ≤ 256) × (l.out ≡ sets l.initial.out l.k (take l.j (take 256 (drop l.from l.pages)))) × (length l.out ≡ length l.initial.out)
+
+abbrev pub decreases-loop-j : goal.decreases-loop-j
+decreases-loop-j l = 256 - l.j
