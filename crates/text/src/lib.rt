@@ -1,5 +1,7 @@
 // Texts and numbers put into a line, a buffer of any length. Each function puts its bytes from byte `at` on, and returns the place after
 // them.
+#![tactic(auto)]
+
 ghost use Rattle.std.specs.Prelude.{◌≡◌, ◌+◌, ◌≤◌, nat_abs, length};
 ghost use Rattle.std.proofs.lemmas.List.Edits.{sets};
 ghost use Rattle.text.specs.Text.{decimal, signed};

@@ -2,3 +2,4 @@
 pub mod Words
 pub mod Windows
 pub mod Buffers
+pub mod Copying

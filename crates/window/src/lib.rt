@@ -1,6 +1,8 @@
 // The words of a page as numbers of 64 bits. A word moves whole: the eight bytes that end at its last byte hold it, and a load or a
 // store goes through that window. Cells at any place are put through the eight bytes from the one that holds their first on, few of them
 // through four.
+#![tactic(auto)]
+
 ghost use Rattle.std.specs.Prelude.{◌≡◌, ◌+◌, ◌*◌, ◌/◌, ◌%◌, ◌^◌, ◌≤◌, ◌<◌, length, take, drop};
 ghost use Rattle.cells.specs.Cells.{number, cells};
 ghost use Rattle.cells.specs.Bytes.{bits, at_start};

@@ -5,31 +5,14 @@ use Prim.Native.Nat.{ℕ, ◌+◌, ◌-◌, ◌*◌, ◌/◌, ◌%◌, ◌^◌}
 use native.Mathlib.Omega.{arith}
 use borrow.Author.Rules.{rules}
 use Rattle.window.proofs.Windows.{shifted, read_window}
-use Rattle.window.proofs.load_cells.Statement.{statement}
-use Rattle.window.proofs.load_cells.Tie as tie
+use Rattle.window.proofs.load_cells.Goals as goal
 
-window_requires : tie.Need-window-requires
-window_requires c κs = search rules
-
-shl_result : tie.Need-overflow-shl-result
-shl_result c = search rules
-
-sub_result : tie.Need-overflow-sub-result
-sub_result c = search rules
-
-shr_result : tie.Need-overflow-shr-result
-shr_result c = search rules
-
-returns : tie.Need-returns
+pub returns : goal.returns
 returns c =
-    let a = c.before.before.args in
+    let a = c.args in
     let v = c.window.result in
     let s : ℕ = 64 - a.at % 8 - a.count in
     let e : a.count + (64 - a.count) ≡ 64 = omega arith in
     ap (λ (w : ℕ). v * 2 ^ (a.at % 8) % 2 ^ w / 2 ^ (64 - a.count)) (sym e)
     ∙ shifted v (a.at % 8) a.count s (64 - a.count) (omega arith)
     ∙ read_window _ a.at a.count (a.at / 8) 8 s (omega arith) (omega arith) (omega arith) v c.window.ensures
-
-pub load_cells_spec : {M : Type 1} → statement M
-load_cells_spec =
-    tie.close (tie.spec window_requires shl_result sub_result shr_result returns)
