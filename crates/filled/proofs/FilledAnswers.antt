@@ -1,6 +1,6 @@
 -- Just when the check of a filled page and page capacity accept, and when they refuse by each number, over any shape of page.
 -- Assumes nothing.
-use mathlib.Core.Bool.{Bool, true, false, not, and_true}
+use mathlib.Core.Bool.{Bool, true, false, not, and-true}
 use mathlib.Core.List.{List, []}
 use mathlib.Core.Logic.{◌↔◌, ◌⊎◌, inl, inr, ⊎_elim}
 use mathlib.Core.Path.{◌≡◌, refl, sym, ◌∙◌}
@@ -41,7 +41,7 @@ module _ (s : Shape) (P : List ℕ) where
 
   pub as_first : ¬ (state P ≡ 3) → answer (capacity_checks s P) (room_of s P) ≡ answer (first_checks s P) (room_first s P)
   unfolding capacity_checks first_checks room_of
-  as_first n = rw (ne_eqb (state P) 3 n, and_true (not (eqb (state P) 1))) refl
+  as_first n = rw (ne_eqb (state P) 3 n, and-true (not (eqb (state P) 1))) refl
 
   by_state : {A : Type 0} → (state P ≡ 3 → A) → (¬ (state P ≡ 3) → A) → A
   by_state {A} f g = go (eqb (state P) 3) refl

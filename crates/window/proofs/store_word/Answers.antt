@@ -14,7 +14,7 @@ returns c =
     let a = c.args in
     let k = c.window_start-k.ensures in
     let s = c.cells_after.ensures in
-    let b : Bytes a.page.now = λ j. omega (arith, c.type_inv.page j) in
+    let b : Bytes a.page.now = λ j. omega (arith, c.slice_known-1.given j) in
     c.put_bytes.ensures
     ∙ write_window _ (start a.i) 46 c.window_start-k.result 8 c.cells_after.result
     (omega arith) (omega arith) (omega arith) _ _ _ b (omega arith) c.window-old.ensures c.replaced.ensures
