@@ -24,7 +24,7 @@ use Rattle.word.proofs.SecondBits.{read_put, put_put, clear_sparse}
 pub length_earlier : (left : Bool) (cs : List Bool) → length (earlier_from left cs) ≡ length cs
 unfolding earlier_from
 length_earlier left [] = refl
-length_earlier left (c ∷ cs) = ap suc (length_earlier _ cs)
+length_earlier left (c ∷ cs) = ap suc (length_earlier (c || not (left || first cs)) cs)
 
 -- ---- the cells that both set
 
