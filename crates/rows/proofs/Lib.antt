@@ -10,3 +10,8 @@ pub mod Counting
 pub mod Blank
 pub mod Shapes
 pub mod Headers
+pub mod FillWords
+pub mod ReadWords
+pub mod WriteWords
+pub mod Gather
+pub mod PutRecord

@@ -1,4 +1,6 @@
 // Rows of words: what the operations on a page do word after word, over the number of its words.
+#![tactic(auto)]
+
 pub mod filling;
 pub mod first_round;
 pub mod second_round;
