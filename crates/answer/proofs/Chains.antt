@@ -12,6 +12,10 @@ use lib.ListN.{length, drop}
 use Rattle.cells.specs.Bytes.{at_start}
 use Rattle.answer.specs.Answer.{AnswerOf, result, refusal, Check, refuse, answer, after, None, numbers, among, RefusesBy}
 
+-- what follows from both parts of a pair, each of which may say what the other leaves open
+pub given_both : {A B C : Type 0} → A × B → (A → B → C) → C
+given_both p f = f p.0 p.1
+
 -- ---- the answer of a list
 
 -- accepted exactly where no condition holds
