@@ -2,6 +2,8 @@
 //
 // The operation takes byte slices of every length and has no `requires`. It answers by an enum: a value case, and a case for each refusal.
 // The first refusal that applies is given, and a refusal writes no byte.
+#![tactic(auto)]
+
 ghost use Rattle.std.specs.Prelude.{◌≡◌, ◌+◌, ◌*◌, ◌≤◌, length};
 ghost use Rattle.std.proofs.lemmas.List.Edits.{sets};
 ghost use Rattle.transfer.specs.File.{start, head, device_field, page_fields};
