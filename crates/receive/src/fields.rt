@@ -1,7 +1,7 @@
 // One field of a transfer file. Within it the tag is judged first, then its place in the sequence, then its length, then whether its
 // contents are all there.
 ghost use Rattle.std.specs.Prelude.{◌≡◌, ◌+◌, ◌^◌, ◌≤◌, ◌<◌, length, drop};
-ghost use Rattle.answer.specs.Answer.{result};
+ghost use Rattle.answer.specs.Answer.{result as answered};
 ghost use Rattle.receive.specs.Field.{length_in};
 ghost use Rattle.receive.specs.Read.{field_of, span_at, device_at, field_at, and_then, span_code, field_read_code};
 
@@ -43,8 +43,8 @@ pub enum Span {
 // The length that the head of the field at byte `at` tells.
 pub fn length_at(file: &[u8], at: usize) -> usize
     requires { at + 3 ≤ length file.now }
-    ensures* told { λ r. ⌜ r ≡ length_in (drop at file.now) ⌝ }
-    ensures* few { λ r. ⌜ r < 2 ^ 16 ⌝ }
+    ensures told { result ≡ length_in (drop at file.now) }
+    ensures few { result < 2 ^ 16 }
 {
     let high = file[at + 1] as usize;
     let low = file[at + 2] as usize;
@@ -54,7 +54,7 @@ pub fn length_at(file: &[u8], at: usize) -> usize
 // The span of the field at byte `at`, whose length must be from `least` to `most`.
 fn span_of(file: &[u8], at: usize, least: usize, most: usize) -> Span
     requires { at ≤ length file.now }
-    ensures* { λ r. ⌜ span_code r ≡ span_at least most file.now at ⌝ }
+    ensures { span_code result ≡ span_at least most file.now at }
 {
     if file.len() - at < 3 {
         return Span::Missing;
@@ -75,7 +75,7 @@ fn span_of(file: &[u8], at: usize, least: usize, most: usize) -> Span
 // The field of a device number at byte `at`.
 fn read_device(file: &[u8], at: usize) -> FieldRead
     requires { at ≤ length file.now }
-    ensures* { λ r. ⌜ field_read_code r ≡ device_at file.now at ⌝ }
+    ensures { field_read_code result ≡ device_at file.now at }
 {
     let n = DEVICE_BYTES as usize;
     let s = span_of(file, at, n, n);
@@ -91,7 +91,7 @@ fn read_device(file: &[u8], at: usize) -> FieldRead
 
 // The field of another kind, by its span.
 fn read_span(s: Span, kind: FieldKind) -> FieldRead
-    ensures* { λ r. ⌜ field_read_code r ≡ and_then (span_code s) (λ next. result (field_of next kind)) ⌝ }
+    ensures { field_read_code result ≡ and_then (span_code s) (λ next. answered (field_of next kind)) }
 {
     match s {
         Span::Next(next) => FieldRead::Whole(Field { next, kind }),
@@ -103,7 +103,7 @@ fn read_span(s: Span, kind: FieldKind) -> FieldRead
 // The field at byte `at`, after `seen` fields that were not passed over.
 pub fn read_field(file: &[u8], at: usize, seen: usize) -> FieldRead
     requires { at ≤ length file.now }
-    ensures* { λ r. ⌜ field_read_code r ≡ field_at file.now at seen ⌝ }
+    ensures { field_read_code result ≡ field_at file.now at seen }
 {
     if file.len() <= at {
         return FieldRead::Cut;

@@ -3,11 +3,13 @@
 // The operation takes byte slices of every length and has no `requires`. It answers by an enum: a value case, and a case for each refusal.
 // The refusal that is met first in the file is given, then that of the output, and a refusal writes no byte: the whole file is judged before
 // one is.
+#![tactic(auto)]
+
 mod fields;
 
 ghost use Rattle.std.specs.Prelude.{not, ◌≡◌, ◌-◌, ◌*◌, ◌≤◌, length, drop};
 ghost use Rattle.std.proofs.lemmas.List.Edits.{sets};
-ghost use Rattle.answer.specs.Answer.{result, answer};
+ghost use Rattle.answer.specs.Answer.{result as answered, answer};
 ghost use Rattle.receive.specs.Read.{and_then, file_read_code, starts_wrongly, after_end, fields_told, counted, Counts, pages_told, read_file_answer, read_file_leaves};
 
 use cells::copy_page;
@@ -26,7 +28,7 @@ pub enum FileRead {
 
 // Whether a file has the fixed start.
 fn starts(file: &[u8]) -> bool
-    ensures* { λ r. ⌜ r ≡ not (starts_wrongly file.now) ⌝ }
+    ensures { result ≡ not (starts_wrongly file.now) }
 {
     if file.len() < 2 {
         return false;
@@ -40,7 +42,7 @@ fn starts(file: &[u8]) -> bool
 // What is told where the end field has been read: bytes after it, or the device number and the pages.
 fn ended(file: &[u8], next: usize, device: u32, seen: usize) -> FileRead
     requires { (1 ≤ seen) × (seen ≤ 65) }
-    ensures* { λ r. ⌜ file_read_code r ≡ answer (after_end (drop next file.now)) (device, seen - 1) ⌝ }
+    ensures { file_read_code result ≡ answer (after_end (drop next file.now)) (device, seen - 1) }
 {
     if next < file.len() {
         return FileRead::FileTail;
@@ -54,7 +56,7 @@ fn ended(file: &[u8], next: usize, device: u32, seen: usize) -> FileRead
 // Judges the fields of a file, one after another, and tells the device number and the number of pages.
 fn judge(file: &[u8]) -> FileRead
     requires { 2 ≤ length file.now }
-    ensures* { λ r. ⌜ file_read_code r ≡ and_then (fields_told file.now) (λ t. result (counted t)) ⌝ }
+    ensures { file_read_code result ≡ and_then (fields_told file.now) (λ t. answered (counted t)) }
 {
     let mut at = 2;
     let mut seen = 0;
@@ -97,7 +99,7 @@ fn judge(file: &[u8]) -> FileRead
 // and lengths are enough.
 fn copy_pages(out: &mut [u8], file: &[u8], n: usize)
     requires { (2 ≤ length file.now) × (256 * n ≤ length out.old) × Counts n (fields_told file.now) }
-    ensures* { λ _. ⌜ out.new ≡ sets out.old 0 (pages_told (fields_told file.now)) ⌝ }
+    ensures { out.new ≡ sets out.old 0 (pages_told (fields_told file.now)) }
 {
     let mut at = 2;
     let mut copied = 0;
@@ -114,8 +116,8 @@ fn copy_pages(out: &mut [u8], file: &[u8], n: usize)
 
 // Read file: puts the pages at the start of the output.
 pub fn read_file(file: &[u8], out: &mut [u8]) -> FileRead
-    ensures* answer { λ r. ⌜ file_read_code r ≡ read_file_answer file.now out.old ⌝ }
-    ensures* bytes { λ _. ⌜ out.new ≡ read_file_leaves file.now out.old ⌝ }
+    ensures answer { file_read_code result ≡ read_file_answer file.now out.old }
+    ensures bytes { out.new ≡ read_file_leaves file.now out.old }
 {
     if !starts(file) {
         return FileRead::FileCut;

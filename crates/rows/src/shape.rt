@@ -4,7 +4,7 @@ ghost use Rattle.cells.specs.Bytes.{zeros};
 ghost use Rattle.rows.specs.Page.{page256, shape_for, record_length, tail, bad_header, with_header};
 
 // A shape of page: its size in bytes, the number of its words, and the bytes of its first record. The definitions use this very record.
-#[derive(Drop)]
+#[derive(Clone, Copy)]
 pub struct Shape {
     pub words: usize,
     pub size: usize,
