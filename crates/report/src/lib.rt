@@ -9,7 +9,7 @@ pub use turns::{first_turn, next_turn, piece_of, put_turn};
 
 // The kind of a piece: a blank page, a first-round page or a filled page with its capacity in bits, a second-round page with its record's
 // length in bytes, or anything else with the number of its refusal.
-#[derive(Drop)]
+#[derive(Clone, Copy)]
 pub enum Kind {
     Blank,
     First(u32),
@@ -19,7 +19,7 @@ pub enum Kind {
 }
 
 // A turn of a listing: that of the page with this index, or none.
-#[derive(Drop)]
+#[derive(Clone, Copy)]
 pub enum Turn {
     Page(u32),
     End,

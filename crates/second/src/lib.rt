@@ -2,6 +2,8 @@
 //
 // Each operation takes byte slices of every length and has no `requires`. It answers by an enum of its own: a value case, and a case for
 // each refusal. The first refusal that applies, in the documents' order, is given, and a refusal writes no byte.
+#![tactic(auto)]
+
 ghost use Rattle.std.specs.Prelude.{◌≡◌};
 ghost use Rattle.second.specs.Answer.{write_second_answer, write_second_leaves, read_second_answer, read_second_leaves, second_written_code, second_read_code};
 

@@ -1,0 +1,3 @@
+-- Laws.
+pub mod SecondChecks
+pub mod Headers
