@@ -4,6 +4,8 @@
 // Each operation takes byte slices of every length and has no `requires`. It answers by an enum of its own: a value case, and a case for
 // each refusal. The first refusal that applies, in the document's order, is given, and a refusal writes no byte. A page is a part of the
 // caller's slice.
+#![tactic(auto)]
+
 ghost use Rattle.std.specs.Prelude.{cond, [], ◌≡◌, ◌+◌, ◌*◌, ◌≤◌, ◌<◌, length};
 ghost use Rattle.std.proofs.lemmas.List.Edits.{sets};
 ghost use Rattle.filled.specs.Answer.{measured_code};

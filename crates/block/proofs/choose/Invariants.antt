@@ -1,0 +1,16 @@
+-- `block::choose` meets its contract: after i turns the best of the first i pages is chosen. Assumes nothing.
+use mathlib.Core.Path.{◌≡◌, refl, sym, ap, ap₂, ◌∙◌}
+use Prim.Native.Nat.{◌-◌, ◌≤◌}
+use native.Mathlib.Numerals.{add-one}
+use native.Mathlib.Omega.{arith}
+use borrow.Author.Rules.{rules}
+use Rattle.block.specs.Block.{offer_at, better, chosen}
+use Rattle.block.specs.declared.Choice.{Choice}
+use Rattle.block.specs.declared.Offer.{Offer}
+use Rattle.block.proofs.choose.Given as goal
+
+abbrev pub invariant-loop-i : goal.invariant-loop-i
+invariant-loop-i l = (l.i ≤ 16) × (l.c ≡ chosen l.size (offer_at l.block l.marks) l.i)
+
+abbrev pub decreases-loop-i : goal.decreases-loop-i
+decreases-loop-i l = 16 - l.i
