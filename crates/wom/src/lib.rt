@@ -3,6 +3,8 @@
 // Bits 56 to 63 of an answer are the refusal's number, 0 for none; bits 0 to 55 are the result, or the refusal's index: the word's for 7,
 // the capacity or the bits taken for 8, else 0. The word fill's result has the word in bits 0 to 47 and the pulses in bits 48 to 55, read
 // file's the device number in bits 0 to 31 and the pages in bits 32 to 55. Every entry is defined for every argument.
+#![tactic(auto)]
+
 ghost use Rattle.std.specs.Prelude.{◌≡◌, ◌<◌};
 ghost use Rattle.answer.specs.Answer.{refusal};
 ghost use Rattle.answer.specs.Layout.{packed, joined, FaithfulParts};

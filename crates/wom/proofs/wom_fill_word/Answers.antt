@@ -1,0 +1,13 @@
+-- `wom::wom_fill_word` meets its contract: the packed answer of `fill`, whose two parts can be told apart.
+-- Assumes nothing.
+use mathlib.Core.Path.{◌∙◌, sym, ap, subst}
+use Prim.Native.Nat.{ℕ}
+use borrow.Author.Rules.{rules}
+use Rattle.answer.specs.Answer.{AnswerOf}
+use Rattle.answer.specs.Layout.{packed, joined, FaithfulParts}
+use Rattle.wom.proofs.Claims.{fill_parts}
+use Rattle.wom.proofs.wom_fill_word.Goals as goal
+
+pub pack_filled-requires : goal.pack_filled-requires
+pack_filled-requires c =
+    subst (λ (a : AnswerOf (ℕ × ℕ)). FaithfulParts 48 a) (sym c.fill.ensures) (fill_parts _)
