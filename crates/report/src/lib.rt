@@ -1,4 +1,6 @@
 // What a listing says of a page: the kind of a piece of input of any length, and the bytes of its line; and the turns of a listing.
+#![tactic(auto)]
+
 mod kinds;
 mod lines;
 mod turns;
