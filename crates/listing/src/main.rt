@@ -2,44 +2,45 @@
 //
 // What is written in a turn and which turn comes after it is the library's (`report`). Here is what a program adds: the buffer, and the
 // calls that read and write.
+#![tactic(auto)]
+
 ghost use Rattle.std.specs.Prelude.{Bool, ◌≡◌, replicate, take};
 ghost use Rattle.report.specs.Listing.{turn_line, first_turn, next_turn};
 ghost use Rattle.report.specs.declared.Turn.TheVariants.{End};
 
-use libc::{STDIN_FILENO, STDOUT_FILENO};
 use report::Turn;
 
 // Writes the line of a page of which n bytes came; whether all of it was written.
-fn write_line(index: u32, page: &[u8], n: usize, line: &[u8]) -> bool
+fn write_line(rt: &HostRuntime, index: u32, page: &[u8], n: usize, line: &[u8]) -> bool
     requires { line.now ≡ turn_line index (take n page.now) }
 {
-    io::write_all(STDOUT_FILENO, line)
+    streams::write_whole(&mut rt.stdout(), line)
 }
 
 // The turn of a page of which n bytes came, and the turn after it.
-fn list_page(index: u32, page: &[u8], n: usize) -> Turn
+fn list_page(rt: &HostRuntime, index: u32, page: &[u8], n: usize) -> Turn
     ensures { (written : Bool) × (result ≡ next_turn index n written) }
 {
     let mut line = [0u8; 32];
     let k = report::put_turn(index, page, n, &mut line);
-    report::next_turn(index, n, write_line(index, page, n, &line[..k]))
+    report::next_turn(index, n, write_line(rt, index, page, n, &line[..k]))
 }
 
 // Refills the buffer and lists what came, turn after turn from the first, until there is none.
-fn list_pages(page: &mut [u8], first: Turn) -> Turn
+fn list_pages(rt: &HostRuntime, page: &mut [u8], first: Turn) -> Turn
     requires zeros { page.old ≡ replicate 256 0 }
     requires from { first ≡ first_turn }
     ensures { result ≡ End }
 {
     let mut turn = first;
     while let Turn::Page(index) = turn {
-        let n = io::read_full(STDIN_FILENO, page);
-        turn = list_page(index, page, n);
+        let n = streams::read_full(&mut rt.stdin(), page);
+        turn = list_page(rt, index, page, n);
     }
     turn
 }
 
-fn main() {
+fn main(rt: HostRuntime) {
     let mut page: [u8; 256] = [0; 256];
-    list_pages(&mut page, report::first_turn());
+    list_pages(&rt, &mut page, report::first_turn());
 }

@@ -12,11 +12,13 @@
 //
 // with the high byte of each number first. Its line is the call's index from 0, the entry, the refusal's number (0 for none) and the result
 // or the refusal's index, in decimal; for an entry that may write a buffer, what the buffer holds afterwards, in hexadecimal.
-use libc::{STDIN_FILENO, STDOUT_FILENO};
+#![tactic(auto)]
+
+use std::io;
 
 // Reads a whole buffer from standard input; whether there was enough.
-fn read_whole(buffer: &mut [u8]) -> bool {
-    io::read_full(STDIN_FILENO, buffer) == buffer.len()
+fn read_whole(rt: &HostRuntime, buffer: &mut [u8]) -> bool {
+    streams::read_full(&mut rt.stdin(), buffer) == buffer.len()
 }
 
 // A number's 32 low bits.
@@ -58,69 +60,70 @@ fn answer_page(entry: u8, argument: u64, page: &mut [u8], other: &mut [u8]) -> u
 }
 
 // Writes the numbers of a call's line.
-fn tell_answer(index: u32, entry: u8, answer: u64) {
-    io::print_decimal(STDOUT_FILENO, index as u64);
-    io::write_all(STDOUT_FILENO, b" ");
-    io::print_decimal(STDOUT_FILENO, entry as u64);
-    io::write_all(STDOUT_FILENO, b" ");
-    io::print_decimal(STDOUT_FILENO, answer >> 56);
-    io::write_all(STDOUT_FILENO, b" ");
-    io::print_decimal(STDOUT_FILENO, answer % 72057594037927936);
-}
-
-fn tell_byte(b: u8) {
-    io::print_hex(STDOUT_FILENO, b as u64, 2);
+fn tell_answer(rt: &HostRuntime, index: u32, entry: u8, answer: u64) -> io::Result<()> {
+    let refusal = answer >> 56;
+    let value = answer % 72057594037927936;
+    print!(rt; "{index} {entry} {refusal} {value}")
 }
 
 // Writes a space and a buffer in hexadecimal.
-fn tell_bytes(buffer: &[u8]) {
-    io::write_all(STDOUT_FILENO, b" ");
-    for i in 0..buffer.len() {
-        tell_byte(buffer[i]);
+fn tell_bytes(rt: &HostRuntime, buffer: &[u8]) -> io::Result<()> {
+    print!(rt; " ")?;
+    for b in buffer {
+        print!(rt; "{b:02x}")?;
     }
+    Ok(())
 }
 
 // Reads the buffers of an entry on a page, pages, a file or a block, makes the call and writes its line but for the end; whether they were
 // there.
-fn replay_page(index: u32, entry: u8, argument: u64, page: &mut [u8], other: &mut [u8]) -> bool {
-    if !read_whole(page) {
-        return false;
+fn replay_page(
+    rt: &HostRuntime,
+    index: u32,
+    entry: u8,
+    argument: u64,
+    page: &mut [u8],
+    other: &mut [u8],
+) -> io::Result<bool> {
+    if !read_whole(rt, page) {
+        return Ok(false);
     }
-    if !read_whole(other) {
-        return false;
+    if !read_whole(rt, other) {
+        return Ok(false);
     }
-    tell_answer(index, entry, answer_page(entry, argument, page, other));
+    tell_answer(rt, index, entry, answer_page(entry, argument, page, other))?;
     match entry {
-        4 | 7 | 10 | 11 | 14 => tell_bytes(page),
-        5 | 8 | 9 | 12 | 13 | 15 => tell_bytes(other),
+        4 | 7 | 10 | 11 | 14 => tell_bytes(rt, page)?,
+        5 | 8 | 9 | 12 | 13 | 15 => tell_bytes(rt, other)?,
         _ => {}
     }
-    true
+    Ok(true)
 }
 
 // Makes one call by its header and writes its line; whether it is one.
-fn replay(index: u32, header: &[u8; 13]) -> bool {
+fn replay(rt: &HostRuntime, index: u32, header: &[u8; 13]) -> io::Result<bool> {
     let entry = header[0];
     let argument = (cells::four_bytes(header, 1) << 32) | cells::four_bytes(header, 5);
     if entry < 4 {
-        tell_answer(index, entry, answer_word(entry, argument));
-        return true;
+        tell_answer(rt, index, entry, answer_word(entry, argument))?;
+        return Ok(true);
     }
     if 15 < entry {
-        return false;
+        return Ok(false);
     }
     let lengths = cells::four_bytes(header, 9);
     let n = lengths / 65536;
     if 4352 < n {
-        return false;
+        return Ok(false);
     }
     let m = lengths % 65536;
     if 4352 < m {
-        return false;
+        return Ok(false);
     }
     let mut page: [u8; 4352] = [0; 4352];
     let mut other: [u8; 4352] = [0; 4352];
     replay_page(
+        rt,
         index,
         entry,
         argument,
@@ -130,14 +133,22 @@ fn replay(index: u32, header: &[u8; 13]) -> bool {
 }
 
 // Reads the header of a call and replays it; whether there was one.
-fn replay_next(index: u32) -> bool {
+fn replay_next(rt: &HostRuntime, index: u32) -> io::Result<bool> {
     let mut header: [u8; 13] = [0; 13];
-    read_whole(&mut header) && replay(index, &header) && io::write_all(STDOUT_FILENO, b"\n")
+    if !read_whole(rt, &mut header) {
+        return Ok(false);
+    }
+    if !replay(rt, index, &header)? {
+        return Ok(false);
+    }
+    println!(rt; "")?;
+    Ok(true)
 }
 
-fn main() {
+fn main(rt: HostRuntime) -> io::Result<()> {
     let mut index: u32 = 0;
-    while index < 65536 && replay_next(index) {
+    while index < 65536 && replay_next(&rt, index)? {
         index += 1;
     }
+    Ok(())
 }

@@ -1,0 +1,29 @@
+// Whole buffers from a reader and to a writer. A read or a write that fails ends the stream, as its end does.
+#![tactic(auto)]
+
+ghost use Rattle.std.specs.Prelude.{◌≤◌, length};
+
+use std::io::{Read, Write};
+
+// Reads until a buffer is full, the input ends or a read fails, and returns how many bytes it put at the buffer's start.
+pub fn read_full<R: Read>(reader: &mut R, buffer: &mut [u8]) -> usize
+    ensures { result ≤ length buffer.new }
+{
+    let mut done = 0;
+    while done < buffer.len() {
+        match reader.read(&mut buffer[done..]) {
+            Ok(0) => return done,
+            Ok(n) => done += n,
+            Err(_) => return done,
+        }
+    }
+    done
+}
+
+// Writes a whole text; whether all of it was written.
+pub fn write_whole<W: Write>(writer: &mut W, text: &[u8]) -> bool {
+    match writer.write_all(text) {
+        Ok(()) => true,
+        Err(_) => false,
+    }
+}
