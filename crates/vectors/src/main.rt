@@ -66,11 +66,15 @@ fn tell_answer(rt: &HostRuntime, index: u32, entry: u8, answer: u64) -> io::Resu
     print!(rt; "{index} {entry} {refusal} {value}")
 }
 
+fn tell_byte(rt: &HostRuntime, b: u8) -> io::Result<()> {
+    print!(rt; "{b:02x}")
+}
+
 // Writes a space and a buffer in hexadecimal.
 fn tell_bytes(rt: &HostRuntime, buffer: &[u8]) -> io::Result<()> {
     print!(rt; " ")?;
     for b in buffer {
-        print!(rt; "{b:02x}")?;
+        tell_byte(rt, *b)?;
     }
     Ok(())
 }
