@@ -14,7 +14,6 @@ use Rattle.window.specs.Words.{Words}
 use Rattle.word.specs.Word.{sparse, legal}
 use Rattle.word.specs.Fill.{fill, read, capacity, put, clear, full, well_formed}
 use Rattle.word.specs.Claims.{Legal}
-use Rattle.word.proofs.Formed.{comes_from}
 use Rattle.word.proofs.Filling.{fill_fill}
 use Rattle.word.proofs.Claims.{second_bits_kept, well_formed_words}
 use Rattle.rows.specs.Page.{fill_all, sum_over, capacity_all, read_all, put_all}

@@ -16,7 +16,6 @@ use Rattle.window.specs.Words.{start, pieces, word_at, splice, put_cells, page_w
 use Rattle.window.proofs.Words.{length_put_cells, put_cells_more, page_words_more, length_word_at}
 use Rattle.word.specs.Word.{sparse}
 use Rattle.word.specs.Fill.{fill, read, put, clear, well_formed, capacity}
-use Rattle.word.proofs.Formed.{comes_from}
 use Rattle.word.proofs.Filling.{capacity_le}
 use Rattle.word.proofs.SecondBits.{sparse_clear}
 use Rattle.word.proofs.Clearing.{clear_lt, cells_clear}

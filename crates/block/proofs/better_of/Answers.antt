@@ -2,7 +2,6 @@
 use mathlib.Core.Path.{sym}
 use native.Mathlib.Omega.{arith}
 use Rattle.block.proofs.Choosing.{keep_passed, keep_small, take_first, take_less, keep_least}
-use borrow.Author.Rules.{rules}
 use Rattle.block.proofs.better_of.Goals as goal
 
 pub returns-then-room-size : goal.returns-then-room-size

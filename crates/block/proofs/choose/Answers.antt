@@ -1,9 +1,7 @@
 -- `block::choose` meets its contract: after i turns the best of the first i pages is chosen. Assumes nothing.
-use mathlib.Core.Path.{◌≡◌, refl, sym, ap, ap₂, ◌∙◌}
-use Prim.Native.Nat.{◌-◌, ◌≤◌}
+use mathlib.Core.Path.{refl, sym, ap, ap₂, ◌∙◌}
 use native.Mathlib.Numerals.{add-one}
 use native.Mathlib.Omega.{arith}
-use borrow.Author.Rules.{rules}
 use Rattle.block.specs.Block.{offer_at, better, chosen}
 use Rattle.block.specs.declared.Choice.{Choice}
 use Rattle.block.specs.declared.Offer.{Offer}

@@ -1,9 +1,8 @@
 -- `block::keep_pages` meets its contract: after i turns the kept ones of the first i pages are copied. Assumes nothing.
 use mathlib.Core.Path.{◌∙◌}
-use Prim.Native.Nat.{◌-◌, ◌≤◌, ◌<◌}
+use Prim.Native.Nat.{◌<◌}
 use native.Mathlib.Omega.{arith}
-use Rattle.block.proofs.Collecting.{count_few, mark_left, Keeps, keeps_first, keeps_more, keeps_all}
-use borrow.Author.Rules.{rules}
+use Rattle.block.proofs.Collecting.{count_few, mark_left, keeps_first, keeps_more, keeps_all}
 use Rattle.block.proofs.keep_pages.Goals as goal
 
 pub loop-i-init : goal.loop-i-init

@@ -1,9 +1,6 @@
 -- `block::keep_pages` meets its contract: after i turns the kept ones of the first i pages are copied. Assumes nothing.
-use mathlib.Core.Path.{◌∙◌}
-use Prim.Native.Nat.{◌-◌, ◌≤◌, ◌<◌}
-use native.Mathlib.Omega.{arith}
-use Rattle.block.proofs.Collecting.{count_few, mark_left, Keeps, keeps_first, keeps_more, keeps_all}
-use borrow.Author.Rules.{rules}
+use Prim.Native.Nat.{◌-◌, ◌≤◌}
+use Rattle.block.proofs.Collecting.{Keeps}
 use Rattle.block.proofs.keep_pages.Given as goal
 
 abbrev pub invariant-loop-i : goal.invariant-loop-i

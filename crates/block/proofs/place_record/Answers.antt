@@ -3,7 +3,6 @@ use mathlib.Core.Path.{sym, ◌∙◌}
 use native.Mathlib.Omega.{arith}
 use Rattle.block.proofs.Choosing.{chosen_best}
 use Rattle.block.proofs.Placing.{not_a_block, none_placed, one_placed}
-use borrow.Author.Rules.{rules}
 use Rattle.answer.proofs.Chains.{given_both}
 use Rattle.block.proofs.place_record.Goals as goal
 

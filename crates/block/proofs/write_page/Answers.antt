@@ -3,7 +3,6 @@ use mathlib.Core.Path.{◌≡◌}
 use Prim.Native.Nat.{◌+◌, ◌-◌, ◌*◌}
 use native.Mathlib.Omega.{arith}
 use Rattle.block.proofs.Pages.{both_written}
-use borrow.Author.Rules.{rules}
 use Rattle.block.proofs.write_page.Goals as goal
 
 pub returns : goal.returns

@@ -1,5 +1,4 @@
 -- `cells::bits_at` meets its contract: the four bytes from the bit's own byte on hold the bits. Assumes nothing.
-use borrow.Author.Rules.{rules}
 use Rattle.cells.proofs.Cutting.{cut_at}
 use Rattle.cells.proofs.bits_at.Goals as goal
 

@@ -1,11 +1,8 @@
 -- `cells::copy_page` meets its contract: after j turns the first j bytes are stored. Assumes nothing.
-use mathlib.Core.List.{List}
-use mathlib.Core.Path.{◌≡◌, refl, sym, ap, ap₂, ◌∙◌}
-use Prim.Native.Nat.{ℕ, ◌+◌, ◌-◌, ◌≤◌}
-use native.Mathlib.Omega.{arith}
-use lib.ListN.{length, take, drop, set, get_or, length-set, length-drop}
-use lib.Seq.{sets, take-take, length-take-le, get_or-take, get_or-drop}
-use Rattle.cells.proofs.Storing.{sets_turn}
+use mathlib.Core.Path.{◌≡◌}
+use Prim.Native.Nat.{◌-◌, ◌≤◌}
+use lib.ListN.{length, take, drop}
+use lib.Seq.{sets}
 use Rattle.cells.proofs.copy_page.Given as goal
 
 abbrev pub invariant-loop-j : goal.invariant-loop-j

@@ -1,8 +1,8 @@
 -- `cells::copy_start` meets its contract: after j turns the first 4 * j bytes are in. Assumes nothing.
 use mathlib.Core.Path.{◌≡◌, refl, ap, ◌∙◌}
-use Prim.Native.Nat.{ℕ, ◌≤◌, ◌+◌, ◌*◌, ◌/◌, ◌-◌}
+use Prim.Native.Nat.{ℕ, ◌+◌, ◌*◌, ◌/◌, ◌-◌}
 use native.Mathlib.Omega.{arith}
-use lib.ListN.{length, take}
+use lib.ListN.{take}
 use Rattle.cells.specs.Bytes.{Bytes, at_start}
 use Rattle.cells.proofs.Copying.{copy_more, four_whole}
 use Rattle.cells.proofs.copy_start.Goals as goal

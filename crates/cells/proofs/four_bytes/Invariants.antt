@@ -1,11 +1,9 @@
 -- `cells::four_bytes` meets its contract: after j turns `v` is the number that the first j bytes write. Assumes nothing.
-use mathlib.Core.Path.{◌≡◌, refl, ap, ◌∙◌}
-use Prim.Native.Nat.{ℕ, ◌≤◌, ◌<◌, ◌+◌, ◌-◌, ◌^◌}
-use native.Mathlib.Omega.{arith}
-use lib.ListN.{take, drop, get_or}
+use mathlib.Core.Path.{◌≡◌}
+use Prim.Native.Nat.{◌≤◌, ◌-◌}
+use lib.ListN.{take, drop}
 use Rattle.cells.specs.Cells.{number}
 use Rattle.cells.specs.Bytes.{bits}
-use Rattle.cells.proofs.Runs.{window_lt, window_step}
 use Rattle.cells.proofs.four_bytes.Given as goal
 
 abbrev pub invariant-loop-j : goal.invariant-loop-j

@@ -1,6 +1,6 @@
 -- `cells::four_or_zero` meets its contract: after j turns `v` is the number that the first j bytes write. Assumes nothing.
-use mathlib.Core.Path.{◌≡◌, refl, ap, ◌∙◌}
-use Prim.Native.Nat.{ℕ, ◌≤◌, ◌<◌, ◌+◌, ◌*◌, ◌-◌, ◌^◌}
+use mathlib.Core.Path.{refl}
+use Prim.Native.Nat.{◌<◌, ◌+◌, ◌^◌}
 use native.Mathlib.Omega.{arith}
 use lib.ListN.{drop}
 use Rattle.cells.specs.Cells.{number, fit}

@@ -1,11 +1,9 @@
 -- `cells::four_or_zero` meets its contract: after j turns `v` is the number that the first j bytes write. Assumes nothing.
-use mathlib.Core.Path.{◌≡◌, refl, ap, ◌∙◌}
-use Prim.Native.Nat.{ℕ, ◌≤◌, ◌<◌, ◌+◌, ◌*◌, ◌-◌, ◌^◌}
-use native.Mathlib.Omega.{arith}
+use mathlib.Core.Path.{◌≡◌}
+use Prim.Native.Nat.{◌≤◌, ◌*◌, ◌-◌}
 use lib.ListN.{drop}
 use Rattle.cells.specs.Cells.{number, fit}
 use Rattle.cells.specs.Bytes.{bits}
-use Rattle.cells.proofs.Cutting.{four_step, four_lt}
 use Rattle.cells.proofs.four_or_zero.Given as goal
 
 abbrev pub invariant-loop-j : goal.invariant-loop-j

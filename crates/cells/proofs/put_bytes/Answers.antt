@@ -1,11 +1,11 @@
 -- `cells::put_bytes` meets its contract: after j turns the first j bytes of v are in. Assumes nothing.
 use mathlib.Core.List.{List}
-use mathlib.Core.Path.{◌≡◌, refl, sym, ap, ap₂, ◌∙◌}
-use Prim.Native.Nat.{ℕ, ◌≤◌, ◌+◌, ◌*◌, ◌-◌, ◌^◌, ◌/◌, ◌%◌}
+use mathlib.Core.Path.{◌≡◌, sym, ap, ap₂, ◌∙◌}
+use Prim.Native.Nat.{ℕ, ◌+◌, ◌*◌, ◌-◌, ◌^◌, ◌/◌, ◌%◌}
 use native.Mathlib.Numerals.{add-one}
 use native.Mathlib.Omega.{arith}
-use lib.ListN.{length, get_or, set, length-set}
-use lib.Seq.{paste, paste-zero, paste-suc}
+use lib.ListN.{get_or, set, length-set}
+use lib.Seq.{paste, paste-suc}
 use Rattle.cells.specs.Cells.{cells}
 use Rattle.cells.specs.Bytes.{bytes}
 use Rattle.cells.proofs.Bytes.{byte_at, length_bytes}

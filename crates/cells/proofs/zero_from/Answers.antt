@@ -1,9 +1,6 @@
 -- `cells::zero_from` meets its contract: the total so far is 0 exactly where the bytes before byte i are. Assumes nothing.
-use mathlib.Core.Path.{refl}
-use Prim.Native.Nat.{◌≤◌, ◌*◌, ◌-◌}
 use native.Mathlib.Omega.{arith}
-use lib.ListN.{length}
-use Rattle.cells.proofs.Zeros.{Zero, zero_turn, zero_end}
+use Rattle.cells.proofs.Zeros.{zero_turn, zero_end}
 use Rattle.cells.proofs.zero_from.Goals as goal
 
 pub loop-i-preserved : goal.loop-i-preserved

@@ -1,9 +1,7 @@
 -- `cells::zero_from` meets its contract: the total so far is 0 exactly where the bytes before byte i are. Assumes nothing.
-use mathlib.Core.Path.{refl}
-use Prim.Native.Nat.{◌≤◌, ◌*◌, ◌-◌}
-use native.Mathlib.Omega.{arith}
+use Prim.Native.Nat.{◌≤◌, ◌*◌}
 use lib.ListN.{length}
-use Rattle.cells.proofs.Zeros.{Zero, zero_turn, zero_end}
+use Rattle.cells.proofs.Zeros.{Zero}
 use Rattle.cells.proofs.zero_from.Given as goal
 
 abbrev pub invariant-loop-i : goal.invariant-loop-i

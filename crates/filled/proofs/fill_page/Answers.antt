@@ -1,14 +1,12 @@
 -- `filled::fill_page` meets its contract: the check's refusals are its own; on a page that passes the state is set, then the words.
 -- Assumes nothing.
 use mathlib.Core.List.{List}
-use mathlib.Core.Path.{◌≡◌, refl, sym, ap, ◌∙◌, subst}
+use mathlib.Core.Path.{◌≡◌, sym, ap, ◌∙◌, subst}
 use Prim.Native.Nat.{ℕ}
 use native.Mathlib.Omega.{arith}
-use borrow.Author.Rules.{rules}
-use lib.ListN.{length, length-set}
+use lib.ListN.{length-set}
 use Rattle.answer.specs.Answer.{Answer, refusal, answer, after}
 use Rattle.answer.proofs.Chains.{same_refusal, both_refused, both_done}
-use Rattle.window.proofs.Words.{length_put_words}
 use Rattle.rows.specs.declared.shape.Shape.{Shape}
 use Rattle.rows.specs.Page.{shape_of, filled_page, FirstRoundOf}
 use Rattle.rows.proofs.Shapes.{Sound, sound_found, words_inside}

@@ -5,19 +5,18 @@ use mathlib.Core.Bool.{true}
 use mathlib.Core.List.{List, [], ◌++◌}
 use mathlib.Core.Logic.{⊎_elim}
 use mathlib.Core.Path.{◌≡◌, refl, sym, ap, subst, ◌∙◌}
-use Prim.Native.Nat.{ℕ, ◌*◌, ◌≤◌}
+use Prim.Native.Nat.{ℕ, ◌≤◌}
 use native.Mathlib.Decide.{ℕ_discrete}
 use native.Mathlib.Nat.{min-le_right}
 use native.Mathlib.Omega.{arith}
-use borrow.Author.Rules.{rules}
 use lib.ListN.{length, take, length-append, length-take}
 use lib.Seq.{length-take-le}
 use Rattle.report.specs.Kinds.{kind_of}
 use Rattle.report.specs.Listing.{pieces_of, first_turn, next_turn}
 use Rattle.report.specs.declared.Turn.{Turn}
-use Rattle.report.specs.declared.Turn.TheVariants.{Page, End}
+use Rattle.report.specs.declared.Turn.TheVariants.{Page}
 use Rattle.report.proofs.Listings.{pieces_none}
-use Rattle.report.proofs.Turning.{next_short, next_cases, turns_left, one_less}
+use Rattle.report.proofs.Turning.{next_short, next_cases, one_less}
 use Rattle.sheet.specs.declared.Tally.{Tally}
 use Rattle.sheet.specs.Sheet.{no_pages, tallied, tally_from, tally_of, turn_tally}
 use Rattle.sheet.proofs.Tallying.{tally_more, tally_whole, turn_none, turn_some}

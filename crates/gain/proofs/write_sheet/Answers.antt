@@ -1,11 +1,7 @@
 -- `gain::write_sheet` meets its contract: what stands at the line's start is the line of the tally, and so the sheet of the input.
 -- Assumes nothing.
-use mathlib.Core.Path.{◌≡◌, sym, ap, ◌∙◌}
-use Prim.Native.Nat.{◌≤◌}
-use native.Mathlib.Omega.{arith}
-use borrow.Author.Rules.{rules}
-use lib.ListN.{length, take, replicate}
-use lib.Seq.{length-sets, length-take-le}
+use mathlib.Core.Path.{ap, ◌∙◌}
+use lib.ListN.{take, replicate}
 use Rattle.text.proofs.Storing.{sets_taken}
 use Rattle.sheet.specs.Sheet.{sheet_line, sheet_of}
 use Rattle.gain.proofs.write_sheet.Goals as goal

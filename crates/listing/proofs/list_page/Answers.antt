@@ -1,11 +1,7 @@
 -- `listing::list_page` meets its contract: what stands at the line's start is the turn's line.
 -- Assumes nothing.
-use mathlib.Core.Path.{◌≡◌, sym, ap, ◌∙◌}
-use Prim.Native.Nat.{◌≤◌}
-use native.Mathlib.Omega.{arith}
-use borrow.Author.Rules.{rules}
-use lib.ListN.{length, take, replicate}
-use lib.Seq.{length-sets, length-take-le}
+use mathlib.Core.Path.{ap, ◌∙◌}
+use lib.ListN.{take, replicate}
 use Rattle.report.specs.Listing.{turn_line}
 use Rattle.text.proofs.Storing.{sets_taken}
 use Rattle.listing.proofs.list_page.Goals as goal

@@ -1,9 +1,6 @@
 -- `listing::list_pages` meets its contract. The loop's invariant: the buffer keeps its length. The measure is how many pages may still come.
 -- Assumes nothing.
-use mathlib.Core.Path.{◌≡◌, refl, ◌∙◌}
-use borrow.Author.Rules.{rules}
-use lib.ListN.{length}
-use Rattle.report.proofs.Turning.{turns_left, one_less}
+use Rattle.report.proofs.Turning.{one_less}
 use Rattle.listing.proofs.list_pages.Goals as goal
 
 pub loop-turn-smaller : goal.loop-turn-smaller

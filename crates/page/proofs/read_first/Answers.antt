@@ -4,7 +4,6 @@ use mathlib.Core.List.{List}
 use mathlib.Core.Path.{◌≡◌, refl, sym, ap, ◌∙◌, subst}
 use Prim.Native.Nat.{ℕ}
 use native.Mathlib.Omega.{arith}
-use borrow.Author.Rules.{rules}
 use Rattle.cells.specs.Bytes.{at_start}
 use Rattle.answer.specs.Answer.{Answer, refusal, answer, after}
 use Rattle.answer.proofs.Chains.{still_refused, both_refused, both_done}

@@ -5,11 +5,9 @@ use mathlib.Core.List.{List}
 use mathlib.Core.Path.{◌≡◌, refl, ap, ◌∙◌, subst}
 use Prim.Native.Nat.{ℕ}
 use native.Mathlib.Omega.{arith}
-use borrow.Author.Rules.{rules}
-use lib.ListN.{length, length-set}
+use lib.ListN.{length-set}
 use Rattle.answer.specs.Answer.{Answer, answer, after}
 use Rattle.answer.proofs.Chains.{both_refused, both_done}
-use Rattle.window.proofs.Words.{length_put_words}
 use Rattle.rows.specs.declared.shape.Shape.{Shape}
 use Rattle.rows.specs.Page.{shape_of, first_page}
 use Rattle.rows.proofs.Shapes.{Sound, sound_found, words_inside}

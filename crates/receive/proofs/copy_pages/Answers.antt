@@ -1,9 +1,9 @@
 -- `receive::copy_pages` meets its contract: before each turn the first pages are put. Assumes nothing.
-use Prim.Native.Nat.{◌+◌, ◌-◌, ◌≤◌}
+use Prim.Native.Nat.{◌+◌, ◌≤◌}
 use native.Mathlib.Omega.{arith}
 use lib.ListN.{length, drop}
 use Rattle.receive.specs.Field.{length_in}
-use Rattle.receive.proofs.Copying.{Copies, copies_first, copies_last, copies_within, page_there, copies_page, copies_other}
+use Rattle.receive.proofs.Copying.{copies_first, copies_last, copies_within, page_there, copies_page, copies_other}
 use Rattle.receive.proofs.copy_pages.Goals as goal
 
 pub loop-copied-init : goal.loop-copied-init

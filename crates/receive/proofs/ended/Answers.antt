@@ -1,7 +1,6 @@
 -- `receive::ended` meets its contract. Assumes nothing.
 use mathlib.Core.Path.{sym}
 use native.Mathlib.Omega.{arith}
-use borrow.Author.Rules.{rules}
 use lib.ListN.{drop, length-drop}
 use Rattle.receive.proofs.Judging.{bytes_after, end_reached}
 use Rattle.receive.proofs.ended.Goals as goal

@@ -2,7 +2,6 @@
 use mathlib.Core.Bool.{false, not}
 use mathlib.Core.Path.{◌≡◌, sym, ap, ◌∙◌}
 use native.Mathlib.Omega.{arith}
-use borrow.Author.Rules.{rules}
 use Rattle.receive.specs.Read.{starts_wrongly, file_read_code}
 use Rattle.receive.proofs.Judging.{start_told}
 use Rattle.receive.proofs.Copying.{counts, told_refused, told_short, told_done, start_refused, started}

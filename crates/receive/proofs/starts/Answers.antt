@@ -2,7 +2,6 @@
 use mathlib.Core.Bool.{not}
 use mathlib.Core.Path.{sym, ap}
 use native.Mathlib.Omega.{arith}
-use borrow.Author.Rules.{rules}
 use Rattle.receive.proofs.Judging.{start_short, start_first, start_second}
 use Rattle.receive.proofs.starts.Goals as goal
 

@@ -5,12 +5,10 @@ use mathlib.Core.List.{List}
 use mathlib.Core.Path.{◌≡◌, sym, ap, ◌∙◌}
 use Prim.Native.Nat.{ℕ, ◌≤◌}
 use native.Mathlib.Omega.{arith}
-use borrow.Author.Rules.{rules}
 use lib.ListN.{length}
 use Rattle.answer.specs.Answer.{Answer, refusal, answer}
 use Rattle.answer.proofs.Chains.{both_refused, both_done}
 use Rattle.window.specs.Words.{page_words}
-use Rattle.window.proofs.Words.{length_put_words}
 use Rattle.word.specs.Fill.{is_filled}
 use Rattle.rows.specs.declared.shape.Shape.{Shape}
 use Rattle.rows.specs.Page.{shape_of, state_second, with_header, lowest, FilledOf}

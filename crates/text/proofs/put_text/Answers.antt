@@ -1,11 +1,10 @@
 -- `text::put_text` meets its contract: in the loop, the text's first i bytes are stored.
 -- Assumes nothing.
 use mathlib.Core.List.{List}
-use mathlib.Core.Path.{◌≡◌, refl, ap, ◌∙◌}
-use Prim.Native.Nat.{ℕ, ◌+◌, ◌-◌, ◌≤◌}
+use mathlib.Core.Path.{ap, ◌∙◌}
+use Prim.Native.Nat.{ℕ, ◌+◌}
 use native.Mathlib.Omega.{arith}
-use lib.ListN.{length, take, set, get_or}
-use lib.Seq.{sets, length-sets, take-length}
+use lib.ListN.{set, get_or}
 use Rattle.cells.proofs.Storing.{sets_turn}
 use Rattle.text.proofs.put_text.Goals as goal
 

@@ -3,7 +3,7 @@
 -- Assumes nothing.
 use Prim.Native.Nat.{◌*◌, ◌%◌, ◌^◌, ◌<◌}
 use native.Mathlib.Omega.{arith}
-use Rattle.walk.proofs.Readings.{Underread, read_start, reading_run, read_pair_fits, read_event, read_few, read_end, read_done}
+use Rattle.walk.proofs.Readings.{read_start, reading_run, read_pair_fits, read_event, read_few, read_end, read_done}
 use Rattle.walk.proofs.read_off.Goals as goal
 
 pub loop-n-init : goal.loop-n-init

@@ -1,9 +1,7 @@
 -- `walk::read_off` meets its contract. The invariant: the bits and the word's form so far, and the walk over the cells that are left,
 -- make up the whole walk.
 -- Assumes nothing.
-use Prim.Native.Nat.{◌*◌, ◌%◌, ◌^◌, ◌<◌}
-use native.Mathlib.Omega.{arith}
-use Rattle.walk.proofs.Readings.{Underread, read_start, reading_run, read_pair_fits, read_event, read_few, read_end, read_done}
+use Rattle.walk.proofs.Readings.{Underread}
 use Rattle.walk.proofs.read_off.Given as goal
 
 abbrev pub invariant-loop-n : goal.invariant-loop-n

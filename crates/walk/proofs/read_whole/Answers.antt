@@ -3,15 +3,14 @@
 use mathlib.Core.Path.{◌≡◌, sym, ◌∙◌, subst}
 use Prim.Native.Nat.{ℕ, ◌+◌, ◌-◌, ◌*◌, ◌/◌, ◌%◌, ◌^◌, ◌<◌}
 use native.Mathlib.Omega.{arith}
-use lib.Bits.{bit_and, and_le_l}
+use lib.Bits.{bit_and}
 use lib.Count.{count_trailing_zeros}
 use lib.ListN.{length}
 use Rattle.cells.specs.Cells.{cells}
 use Rattle.walk.specs.Walk.{read_up_to}
-use Rattle.word.proofs.SetCells.{low_cell, low_less}
 use Rattle.walk.proofs.Whole.{whole_first, whole_pairs}
-use Rattle.walk.proofs.Gathering.{Pairs, pairs_of_lem, place, pairs_of, Tallied, tally_start, tally_turn, tally_fits, tally_end, place_is}
-use Rattle.walk.proofs.read_whole.Invariants.{marked, Reading}
+use Rattle.walk.proofs.Gathering.{pairs_of_lem, place, pairs_of, Tallied, tally_start, tally_turn, tally_fits, tally_end, place_is}
+use Rattle.walk.proofs.read_whole.Invariants.{Reading}
 use Rattle.walk.proofs.read_whole.Goals as goal
 
 pub overflow_mul-left : goal.overflow_mul-left

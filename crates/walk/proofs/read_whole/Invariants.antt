@@ -1,16 +1,9 @@
 -- `walk::read_whole` meets its contract. The invariant: the bits of the cells after the separators that are left are gathered, in place, and
 -- a 1 is as far above the lowest place as there are pairs. Assumes nothing.
-use mathlib.Core.Path.{◌≡◌, sym, ◌∙◌, subst}
-use Prim.Native.Nat.{ℕ, ◌+◌, ◌-◌, ◌*◌, ◌/◌, ◌%◌, ◌^◌, ◌<◌}
-use native.Mathlib.Omega.{arith}
-use lib.Bits.{bit_and, and_le_l}
-use lib.Count.{count_trailing_zeros}
-use lib.ListN.{length}
-use Rattle.cells.specs.Cells.{cells}
-use Rattle.walk.specs.Walk.{read_up_to}
-use Rattle.word.proofs.SetCells.{low_cell, low_less}
-use Rattle.walk.proofs.Whole.{whole_first, whole_pairs}
-use Rattle.walk.proofs.Gathering.{Pairs, pairs_of_lem, place, pairs_of, Tallied, tally_start, tally_turn, tally_fits, tally_end, place_is}
+use mathlib.Core.Path.{◌≡◌}
+use Prim.Native.Nat.{ℕ, ◌*◌, ◌/◌}
+use lib.Bits.{bit_and}
+use Rattle.walk.proofs.Gathering.{Pairs, Tallied}
 use Rattle.walk.proofs.read_whole.Given as goal
 
 -- the marks of the pairs 11, where the code holds them one place higher

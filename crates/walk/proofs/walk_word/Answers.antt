@@ -4,9 +4,8 @@
 use mathlib.Core.Path.{refl}
 use Prim.Native.Nat.{◌+◌, ◌/◌}
 use native.Mathlib.Omega.{arith}
-use lib.Bits.{and_le_l}
 use lib.Count.{count_leading_zeros}
-use Rattle.walk.proofs.Laying.{First, first_cell, Laid, Held, held_start, held_fits, held_cell, held_bit, held_end}
+use Rattle.walk.proofs.Laying.{First, first_cell, Laid, held_start, held_fits, held_cell, held_bit, held_end}
 use Rattle.walk.proofs.walk_word.Goals as goal
 
 pub loop-next-init : goal.loop-next-init

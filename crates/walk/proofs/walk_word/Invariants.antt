@@ -1,12 +1,7 @@
 -- `walk::walk_word` meets its contract. The invariant: the pairs so far, and the walk of the bits that are left over the cells that are
 -- left, make up the whole walk.
 -- Assumes nothing.
-use mathlib.Core.Path.{refl}
-use Prim.Native.Nat.{◌+◌, ◌/◌}
-use native.Mathlib.Omega.{arith}
-use lib.Bits.{and_le_l}
-use lib.Count.{count_leading_zeros}
-use Rattle.walk.proofs.Laying.{First, first_cell, Laid, Held, held_start, held_fits, held_cell, held_bit, held_end}
+use Rattle.walk.proofs.Laying.{Held}
 use Rattle.walk.proofs.walk_word.Given as goal
 
 abbrev pub invariant-loop-next : goal.invariant-loop-next

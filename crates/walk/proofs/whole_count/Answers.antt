@@ -1,8 +1,6 @@
 -- `walk::whole_count` meets its contract: each cell is a bit, but for the separators and a single last cell.
 -- Assumes nothing.
 use native.Mathlib.Omega.{arith}
-use borrow.Author.Rules.{rules}
-use Rattle.word.proofs.Counting.{ones_fit}
 use Rattle.walk.proofs.Whole.{whole_count}
 use Rattle.walk.proofs.whole_count.Goals as goal
 

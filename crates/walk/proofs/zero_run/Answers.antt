@@ -1,9 +1,5 @@
 -- `walk::zero_run` meets its contract: the leading zeros of the cells and the two marks are the run.
 -- Assumes nothing.
-use native.Mathlib.Omega.{arith}
-use Prim.Native.Nat.{ℕ, ◌^◌, ◌<◌}
-use lib.Count.{count_leading_zeros, leading_le}
-use borrow.Author.Rules.{rules}
 use Rattle.walk.proofs.Runs.{zeros_run}
 use Rattle.walk.proofs.zero_run.Goals as goal
 

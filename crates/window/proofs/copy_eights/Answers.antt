@@ -1,8 +1,8 @@
 -- `window::copy_eights` meets its contract: after j turns the first 8 * j bytes are in. Assumes nothing.
 use mathlib.Core.Path.{◌≡◌, refl, ap, ◌∙◌}
-use Prim.Native.Nat.{ℕ, ◌≤◌, ◌+◌, ◌*◌, ◌-◌}
+use Prim.Native.Nat.{ℕ, ◌+◌, ◌*◌}
 use native.Mathlib.Omega.{arith}
-use lib.ListN.{length, take}
+use lib.ListN.{take}
 use Rattle.cells.specs.Bytes.{Bytes, at_start}
 use Rattle.window.proofs.Copying.{copy_eight}
 use Rattle.window.proofs.copy_eights.Goals as goal

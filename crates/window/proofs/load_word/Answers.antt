@@ -3,7 +3,6 @@
 use mathlib.Core.Path.{◌∙◌}
 use Prim.Native.Nat.{◌-◌}
 use native.Mathlib.Omega.{arith}
-use borrow.Author.Rules.{rules}
 use Rattle.window.specs.Words.{start, word_at}
 use Rattle.window.proofs.Windows.{shifted, read_window}
 use Rattle.window.proofs.load_word.Goals as goal

@@ -3,7 +3,6 @@
 use mathlib.Core.Path.{◌∙◌}
 use Prim.Native.Nat.{◌-◌, ◌/◌, ◌%◌}
 use native.Mathlib.Omega.{arith}
-use borrow.Author.Rules.{rules}
 use Rattle.cells.specs.Bytes.{Bytes}
 use Rattle.window.proofs.Windows.{write_window}
 use Rattle.window.proofs.put_cells.Goals as goal

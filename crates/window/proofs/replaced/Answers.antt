@@ -4,7 +4,6 @@ use mathlib.Core.Path.{◌≡◌, ap, sym, subst, ◌∙◌}
 use Prim.Native.Nat.{ℕ, ◌+◌, ◌-◌, ◌*◌, ◌/◌, ◌%◌, ◌^◌, ◌<◌, ◌≤◌}
 use native.Mathlib.Nat.{mod-lt}
 use native.Mathlib.Omega.{arith}
-use borrow.Author.Rules.{rules}
 use lib.Arith.{digits_lt}
 use lib.Pow.{shr_lt, shl_exact, pow-add, pow_pos, split, mod-pow-add}
 use Rattle.window.proofs.replaced.Goals as goal

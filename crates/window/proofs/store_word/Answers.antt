@@ -2,7 +2,6 @@
 -- Assumes nothing.
 use mathlib.Core.Path.{◌∙◌}
 use native.Mathlib.Omega.{arith}
-use borrow.Author.Rules.{rules}
 use Rattle.cells.specs.Bytes.{Bytes}
 use Rattle.window.specs.Words.{start, put_word}
 use Rattle.window.proofs.Windows.{write_window}

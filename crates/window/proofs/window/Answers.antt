@@ -1,6 +1,5 @@
 -- `window::window` meets its contract: eight bytes are four and the four after them. Assumes nothing.
 use native.Mathlib.Omega.{arith}
-use borrow.Author.Rules.{rules}
 use lib.ListN.{drop}
 use Rattle.cells.proofs.Runs.{window_lt, window_join}
 use Rattle.window.proofs.window.Goals as goal

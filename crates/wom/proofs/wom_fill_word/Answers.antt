@@ -1,10 +1,9 @@
 -- `wom::wom_fill_word` meets its contract: the packed answer of `fill`, whose two parts can be told apart.
 -- Assumes nothing.
-use mathlib.Core.Path.{◌∙◌, sym, ap, subst}
+use mathlib.Core.Path.{sym, subst}
 use Prim.Native.Nat.{ℕ}
-use borrow.Author.Rules.{rules}
 use Rattle.answer.specs.Answer.{AnswerOf}
-use Rattle.answer.specs.Layout.{packed, joined, FaithfulParts}
+use Rattle.answer.specs.Layout.{FaithfulParts}
 use Rattle.wom.proofs.Claims.{fill_parts}
 use Rattle.wom.proofs.wom_fill_word.Goals as goal
 

@@ -1,7 +1,6 @@
 -- `word::encode` meets its contract: the table that it takes is the table of the weights.
 -- Assumes nothing.
-use mathlib.Core.Path.{refl, ap}
-use Rattle.answer.specs.Answer.{result}
+use mathlib.Core.Path.{refl}
 use Rattle.word.specs.Weights.{weights}
 use Rattle.word.proofs.encode.Goals as goal
 

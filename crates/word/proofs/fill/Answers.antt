@@ -3,7 +3,6 @@
 use mathlib.Core.Path.{refl, sym, ◌∙◌, ap, ap₂}
 use Prim.Native.Nat.{ℕ}
 use native.Mathlib.Omega.{arith}
-use borrow.Author.Rules.{rules}
 use Rattle.answer.specs.Answer.{result}
 use Rattle.answer.proofs.Chains.{same_refusal}
 use Rattle.word.specs.Answer.{decoded_code, legal_checks}

@@ -1,7 +1,6 @@
 -- `inspect::row::next_bits` meets its contract. Assumes nothing.
 use mathlib.Core.Path.{◌≡◌, refl, ap, ◌∙◌}
 use native.Mathlib.Omega.{arith}
-use borrow.Author.Rules.{rules}
 use lib.ListN.{drop, length-drop}
 use Rattle.cells.specs.Cells.{number}
 use Rattle.cells.specs.Bytes.{bits}

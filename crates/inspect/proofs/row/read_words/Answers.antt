@@ -1,10 +1,8 @@
 -- `inspect::row::read_words` meets its contract: before word i the words before it are legal in their unwalked form, and their bits are in the
 -- buffer. Assumes nothing.
 use mathlib.Core.Path.{◌≡◌, refl, sym, ◌∙◌}
-use Prim.Native.Nat.{◌+◌, ◌≤◌, ◌-◌}
+use Prim.Native.Nat.{◌+◌, ◌-◌}
 use native.Mathlib.Omega.{arith}
-use borrow.Author.Tests.{not-true, not-false}
-use lib.ListN.{length}
 use Rattle.window.specs.Words.{word_at}
 use Rattle.word.specs.Word.{legal}
 use Rattle.rows.proofs.Loaded.{loaded_lt}

@@ -1,15 +1,9 @@
 -- `inspect::row::read_words` meets its contract: before word i the words before it are legal in their unwalked form, and their bits are in the
 -- buffer. Assumes nothing.
-use mathlib.Core.Path.{◌≡◌, refl, sym, ◌∙◌}
-use Prim.Native.Nat.{◌+◌, ◌≤◌, ◌-◌}
-use native.Mathlib.Omega.{arith}
-use borrow.Author.Tests.{not-true, not-false}
+use mathlib.Core.Path.{◌≡◌}
+use Prim.Native.Nat.{◌≤◌, ◌-◌}
 use lib.ListN.{length}
-use Rattle.window.specs.Words.{word_at}
-use Rattle.word.specs.Word.{legal}
-use Rattle.rows.proofs.Loaded.{loaded_lt}
-use Rattle.walk.specs.Walk.{unwalked}
-use Rattle.inspect.proofs.ReadWords.{Reading, reading_start, reading_lt, reading_legal, reading_failed, reading_turn, reading_length, reading_all}
+use Rattle.inspect.proofs.ReadWords.{Reading}
 use Rattle.inspect.proofs.row.read_words.Given as goal
 
 abbrev pub invariant-loop-i : goal.invariant-loop-i

@@ -1,18 +1,15 @@
 -- `inspect::row::walk_words` meets its contract: before word i the words before it are walked and put aside, and their walks took the record's
 -- bits before bit `next`. Assumes nothing.
-use mathlib.Core.Path.{◌≡◌, refl, ap, ◌∙◌}
-use Prim.Native.Nat.{ℕ, ◌+◌, ◌≤◌, ◌-◌}
+use mathlib.Core.Path.{refl, ap, ◌∙◌}
+use Prim.Native.Nat.{◌+◌}
 use native.Mathlib.Omega.{arith}
-use lib.ListN.{length, drop}
-use Rattle.cells.specs.Bytes.{bits}
+use lib.ListN.{length}
 use Rattle.cells.proofs.Numbers.{length_cells, number_below}
-use Rattle.window.specs.Words.{page_words, put_words}
 use Rattle.window.proofs.Words.{length_put_words}
 use Rattle.word.specs.Word.{legal}
 use Rattle.rows.proofs.Scanning.{all_passed}
 use Rattle.rows.proofs.Loaded.{loaded_lt, loaded_sparse}
 use Rattle.walk.proofs.Walking.{length_walked}
-use Rattle.inspect.specs.Rows.{walked_all, taken_all}
 use Rattle.inspect.proofs.WalkWords.{Walking, walking_start, walking_next, walking_turn}
 use Rattle.inspect.proofs.row.walk_words.Goals as goal
 

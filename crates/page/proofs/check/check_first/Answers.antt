@@ -2,7 +2,6 @@
 -- Assumes nothing.
 use mathlib.Core.Path.{refl, sym, ◌∙◌}
 use native.Mathlib.Omega.{arith}
-use borrow.Author.Rules.{rules}
 use Rattle.word.specs.Word.{legal}
 use Rattle.rows.specs.Page.{state_first, FirstRoundOf}
 use Rattle.rows.proofs.Headers.{empty_tells}

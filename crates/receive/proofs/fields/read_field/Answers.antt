@@ -2,7 +2,6 @@
 use native.Mathlib.Omega.{arith}
 use mathlib.Core.Path.{refl, sym, ◌∙◌}
 use borrow.Author.Tests.{eq-eqb, ne_eqb}
-use borrow.Author.Rules.{rules}
 use Rattle.receive.specs.Field.{device, page, end, passed_over, in_place, least, most}
 use Rattle.receive.specs.Read.{kind_at, field_at}
 use Rattle.receive.proofs.Judging.{nothing_there, other_tag, no_place, field_there, field_spanned, sort_02, sort_01, sort_7_f, sort_passed, sort_low, sort_high, page_late, page_in, end_in}

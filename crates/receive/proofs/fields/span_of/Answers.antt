@@ -2,7 +2,6 @@
 use mathlib.Core.Path.{sym, ap, ◌∙◌}
 use Prim.Native.Nat.{ℕ, ◌+◌}
 use native.Mathlib.Omega.{arith}
-use borrow.Author.Rules.{rules}
 use Rattle.answer.specs.Answer.{result}
 use Rattle.receive.proofs.Judging.{head_cut, too_short, too_long, contents_cut, spanned}
 use Rattle.receive.proofs.fields.span_of.Goals as goal

@@ -1,7 +1,6 @@
 -- `kinds::inspect_kind` meets its contract: read Inspect is given 247 bytes of 0.
 -- Assumes nothing.
 use mathlib.Core.Path.{ap, ◌∙◌}
-use borrow.Author.Rules.{rules}
 use Rattle.rows.specs.Page.{blank_of}
 use Rattle.report.specs.Kinds.{kind_by}
 use Rattle.report.specs.declared.Kind.TheVariants.{Second}

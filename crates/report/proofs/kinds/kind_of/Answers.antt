@@ -2,7 +2,6 @@
 -- Assumes nothing.
 use mathlib.Core.Logic.{inl, inr}
 use mathlib.Core.Path.{sym, ap, ◌∙◌}
-use borrow.Author.Rules.{rules}
 use Rattle.rows.specs.Page.{state}
 use Rattle.report.specs.Kinds.{kind_by, open_kind}
 use Rattle.report.proofs.Deciding.{kind_not_sized, kind_00, kind_open, kind_07, kind_09, kind_unknown}

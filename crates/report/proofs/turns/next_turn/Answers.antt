@@ -1,8 +1,6 @@
 -- `turns::next_turn` meets its contract: a test for each end of a listing.
 -- Assumes nothing.
 use mathlib.Core.Path.{sym}
-use borrow.Author.Rules.{rules}
-use borrow.Author.Tests.{not-true, not-false}
 use Rattle.report.proofs.Turning.{next_unwritten, next_short, next_last, next_page}
 use Rattle.report.proofs.turns.next_turn.Goals as goal
 

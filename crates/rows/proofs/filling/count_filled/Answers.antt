@@ -1,9 +1,8 @@
 -- `rows::filling::count_filled` meets its contract: before word i the words before it are filled, and `at` counts their data cells.
 -- Assumes nothing.
 use mathlib.Core.Path.{◌≡◌, sym, ap, ◌∙◌, subst}
-use Prim.Native.Nat.{◌+◌, ◌≤◌, ◌-◌}
+use Prim.Native.Nat.{◌+◌}
 use native.Mathlib.Omega.{arith}
-use borrow.Author.Tests.{not-true, not-false}
 use Rattle.cells.proofs.Tests.{holds}
 use Rattle.window.specs.Words.{word_at}
 use Rattle.word.specs.Fill.{is_filled}

@@ -1,15 +1,9 @@
 -- `rows::filling::count_filled` meets its contract: before word i the words before it are filled, and `at` counts their data cells.
 -- Assumes nothing.
-use mathlib.Core.Path.{◌≡◌, sym, ap, ◌∙◌, subst}
-use Prim.Native.Nat.{◌+◌, ◌≤◌, ◌-◌}
-use native.Mathlib.Omega.{arith}
-use borrow.Author.Tests.{not-true, not-false}
-use Rattle.cells.proofs.Tests.{holds}
-use Rattle.window.specs.Words.{word_at}
+use Prim.Native.Nat.{◌≤◌, ◌-◌}
 use Rattle.word.specs.Fill.{is_filled}
-use Rattle.rows.proofs.Loaded.{loaded_lt, loaded_cells, OwnSeparators, own_separators}
-use Rattle.rows.proofs.Scanning.{Passed, passed_none, passed_more, scan_failed, scan_passed}
-use Rattle.rows.proofs.Counting.{Counting, counting_start, counting_turn}
+use Rattle.rows.proofs.Scanning.{Passed}
+use Rattle.rows.proofs.Counting.{Counting}
 use Rattle.rows.proofs.filling.count_filled.Given as goal
 
 abbrev pub invariant-loop-i : goal.invariant-loop-i

@@ -1,14 +1,12 @@
 -- `rows::filling::fill_words` meets its contract: before word i the words before it are filled, and the total is their pulses.
 -- Assumes nothing.
-use mathlib.Core.Path.{◌≡◌, refl, ap, ◌∙◌}
-use Prim.Native.Nat.{ℕ, ◌+◌, ◌≤◌, ◌-◌}
+use mathlib.Core.Path.{refl, ap, ◌∙◌}
+use Prim.Native.Nat.{◌+◌}
 use native.Mathlib.Omega.{arith}
 use lib.ListN.{length}
-use Rattle.window.specs.Words.{page_words, put_words}
 use Rattle.window.proofs.Words.{length_put_words}
 use Rattle.word.specs.Fill.{fill_pulses}
 use Rattle.word.proofs.Pulses.{filled_small, filled_kept}
-use Rattle.rows.specs.Page.{fill_all, pulses_all}
 use Rattle.rows.proofs.Loaded.{loaded_lt}
 use Rattle.rows.proofs.Sums.{Summing, summing_start, summing_turn}
 use Rattle.rows.proofs.FillWords.{Filling, filling_start, filling_turn, pulses_turn}

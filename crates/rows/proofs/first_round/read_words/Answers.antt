@@ -2,20 +2,18 @@
 -- Assumes nothing.
 use mathlib.Core.Bool.{true}
 use mathlib.Core.Path.{◌≡◌, refl, ap, ◌∙◌}
-use Prim.Native.Nat.{ℕ, ◌*◌, ◌≤◌, ◌-◌, ◌^◌, ◌<◌}
+use Prim.Native.Nat.{◌*◌, ◌^◌, ◌<◌}
 use native.Mathlib.Omega.{arith}
 use lib.ListN.{length}
 use lib.Seq.{length-paste}
 use Rattle.cells.specs.Cells.{cells}
-use Rattle.cells.specs.Bytes.{bytes, at_start}
+use Rattle.cells.specs.Bytes.{bytes}
 use Rattle.cells.proofs.Bytes.{length_bytes}
-use Rattle.window.specs.Words.{page_words}
 use Rattle.word.specs.Word.{sparse, legal}
 use Rattle.word.specs.Weights.{weights}
-use Rattle.rows.specs.Page.{first_record}
 use Rattle.rows.proofs.Loaded.{loaded_lt, loaded_cells, loaded_sparse}
 use Rattle.rows.proofs.Scanning.{all_passed}
-use Rattle.rows.proofs.ReadWords.{Reading, reading_start, reading_turn}
+use Rattle.rows.proofs.ReadWords.{reading_start, reading_turn}
 use Rattle.rows.proofs.first_round.read_words.Goals as goal
 
 pub loop-i-init : goal.loop-i-init

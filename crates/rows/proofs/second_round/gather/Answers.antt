@@ -1,10 +1,8 @@
 -- `rows::second_round::gather` meets its contract: before word i the words before it are well formed, and their bits are in the buffer.
 -- Assumes nothing.
 use mathlib.Core.Path.{◌≡◌, refl, sym, ap, ◌∙◌, subst}
-use Prim.Native.Nat.{◌+◌, ◌≤◌, ◌-◌}
+use Prim.Native.Nat.{◌+◌}
 use native.Mathlib.Omega.{arith}
-use borrow.Author.Tests.{not-true, not-false}
-use lib.ListN.{length}
 use Rattle.window.specs.Words.{word_at}
 use Rattle.word.specs.Fill.{well_formed}
 use Rattle.rows.proofs.Loaded.{loaded_lt, loaded_cells}

@@ -4,7 +4,6 @@ use mathlib.Core.Bool.{not}
 use mathlib.Core.Logic.{inl}
 use mathlib.Core.Path.{sym, ap, ◌∙◌}
 use native.Mathlib.Omega.{arith}
-use borrow.Author.Rules.{rules}
 use Rattle.answer.proofs.Tells.{is_held}
 use Rattle.rows.proofs.Headers.{header_tells, header_tail}
 use Rattle.rows.proofs.shape.bad_header.Goals as goal

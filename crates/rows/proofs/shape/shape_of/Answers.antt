@@ -1,7 +1,6 @@
 -- `rows::shape::shape_of` meets its contract: by the length.
 -- Assumes nothing.
 use mathlib.Core.Path.{sym, ◌∙◌}
-use borrow.Author.Rules.{rules}
 use Rattle.rows.proofs.Shapes.{for_512, for_other}
 use Rattle.rows.proofs.shape.shape_of.Goals as goal
 

@@ -1,12 +1,9 @@
 -- `rows::shape::tail_zero` meets its contract: the bytes from byte i on are 0 exactly where all after the words are. Assumes nothing.
-use mathlib.Core.Path.{◌≡◌, refl, sym, ◌∙◌}
+use mathlib.Core.Path.{◌≡◌}
 use Prim.Native.Nat.{◌-◌}
-use native.Mathlib.Omega.{arith}
-use borrow.Author.Rules.{rules}
 use lib.ListN.{length, drop}
 use Rattle.cells.specs.Bytes.{zeros}
 use Rattle.rows.specs.Page.{tail}
-use Rattle.rows.proofs.Headers.{zeros_found, zeros_passed, zeros_end}
 use Rattle.rows.proofs.shape.tail_zero.Given as goal
 
 abbrev pub invariant-loop-i : goal.invariant-loop-i

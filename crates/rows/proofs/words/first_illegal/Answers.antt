@@ -1,12 +1,10 @@
 -- `rows::words::first_illegal` meets its contract: the words before word i are legal. Assumes nothing.
 use mathlib.Core.Path.{◌≡◌, sym, ◌∙◌, subst}
-use Prim.Native.Nat.{◌≤◌, ◌-◌}
 use native.Mathlib.Omega.{arith}
-use borrow.Author.Tests.{not-true, not-false}
 use Rattle.window.specs.Words.{word_at}
 use Rattle.word.specs.Word.{legal}
 use Rattle.rows.proofs.Loaded.{loaded_legal}
-use Rattle.rows.proofs.Scanning.{Passed, passed_none, passed_more, scan_failed, scan_passed}
+use Rattle.rows.proofs.Scanning.{Passed, passed_more, scan_failed, scan_passed}
 use Rattle.rows.proofs.words.first_illegal.Goals as goal
 
 pub returns-then-not-is_legal : goal.returns-then-not-is_legal

@@ -4,9 +4,8 @@ use mathlib.Core.Path.{◌∙◌}
 use Prim.Native.Nat.{ℕ, ◌+◌, ◌≤◌}
 use native.Mathlib.Nat.{zero-add}
 use native.Mathlib.Omega.{arith}
-use borrow.Author.Rules.{rules}
 use Rattle.text.specs.Text.{ascii, decimal}
-use Rattle.text.proofs.Storing.{Put, put_put, put_length}
+use Rattle.text.proofs.Storing.{Put, put_put}
 use Rattle.sheet.specs.declared.Tally.{Tally}
 use Rattle.sheet.specs.Sheet.{counts_of}
 use Rattle.sheet.proofs.lines.put_counts.Goals as goal

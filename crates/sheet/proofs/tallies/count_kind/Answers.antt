@@ -1,8 +1,5 @@
 -- `tallies::count_kind` meets its contract: one more in the count of a kind. Assumes nothing.
-use mathlib.Core.Path.{sym, ap}
 use native.Mathlib.Omega.{arith}
-use borrow.Author.Rules.{rules}
-use Rattle.sheet.specs.Sheet.{counted}
 use Rattle.sheet.proofs.Tallying.{counts_fit}
 use Rattle.sheet.proofs.tallies.count_kind.Goals as goal
 

@@ -1,6 +1,5 @@
 -- `tallies::tally_piece` meets its contract: the piece's kind is counted, or nothing. Assumes nothing.
 use mathlib.Core.Path.{sym, ap, ◌∙◌}
-use borrow.Author.Rules.{rules}
 use lib.ListN.{length, take}
 use Rattle.report.specs.Kinds.{kind_of}
 use Rattle.sheet.specs.Sheet.{tallied}

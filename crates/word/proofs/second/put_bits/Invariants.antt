@@ -1,14 +1,10 @@
 -- `word::second::put_bits` meets its contract. The invariant: the word so far and what the bits that are left are worth in the cells of the
 -- mask make up the whole.
 -- Assumes nothing.
-use Prim.Native.Nat.{◌<◌}
-use native.Mathlib.Omega.{arith}
 use lib.ListN.{length}
-use lib.Count.{count_trailing_zeros}
 use Rattle.cells.specs.Cells.{number, cells}
 use Rattle.word.specs.Fill.{read, put}
-use Rattle.word.proofs.SetCells.{Low, low_cell, low_small, low_less}
-use Rattle.word.proofs.Putting.{Laid, laid_start, laid_turn, laid_end}
+use Rattle.word.proofs.Putting.{Laid}
 use Rattle.word.proofs.second.put_bits.Given as goal
 
 abbrev pub invariant-loop-mask : goal.invariant-loop-mask

@@ -1,14 +1,10 @@
 -- `word::second::read_bits` meets its contract. The invariant: the bits read so far, and after them those of the data cells that the
 -- mask still has, make up the whole.
 -- Assumes nothing.
-use Prim.Native.Nat.{◌<◌, ◌-◌, ◌^◌}
 use native.Mathlib.Omega.{arith}
-use lib.Pow.{pow_pos}
 use lib.Count.{count_leading_zeros}
-use Rattle.cells.specs.Cells.{number, cells}
-use Rattle.word.specs.Fill.{read}
 use Rattle.word.proofs.SetCells.{Top, top_cell}
-use Rattle.word.proofs.Reading.{Picked, picked_start, picked_lt, picked_turn, picked_end}
+use Rattle.word.proofs.Reading.{picked_start, picked_turn, picked_end}
 use Rattle.word.proofs.second.read_bits.Goals as goal
 
 pub loop-mask-init : goal.loop-mask-init

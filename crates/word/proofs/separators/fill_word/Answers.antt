@@ -1,6 +1,5 @@
 -- `word::separators::fill_word` meets its contract: the fill adds every second cell of each run of free cells.
 -- Assumes nothing.
-use borrow.Author.Rules.{rules}
 use Rattle.word.proofs.FreeCells.{free_lt, fill_clear}
 use Rattle.word.proofs.separators.fill_word.Goals as goal
 

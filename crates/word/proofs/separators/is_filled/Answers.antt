@@ -1,7 +1,6 @@
 -- `word::separators::is_filled` meets its contract: a word with neighbours is not filled, and one without is where it is full.
 -- Assumes nothing.
 use mathlib.Core.Path.{sym, ◌∙◌}
-use borrow.Author.Rules.{rules}
 use borrow.Author.Tests.{not-true, not-false}
 use Rattle.word.proofs.Formed.{filled_full, not_filled}
 use Rattle.word.proofs.separators.is_filled.Goals as goal

@@ -1,9 +1,8 @@
 -- `word::separators::separators_of` meets its contract. The invariant: a cell is a separator if it is set so far, or if its run reaches
 -- d cells back and the cell there is a separator.
 -- Assumes nothing.
-use Prim.Native.Nat.{◌-◌}
 use native.Mathlib.Omega.{arith}
-use Rattle.word.proofs.Clearing.{Stays, stays_start, stays_turn, stays_end}
+use Rattle.word.proofs.Clearing.{stays_start, stays_turn, stays_end}
 use Rattle.word.proofs.separators.separators_of.Goals as goal
 
 pub loop-d-init : goal.loop-d-init

@@ -2,8 +2,7 @@
 -- d cells back and the cell there is a separator.
 -- Assumes nothing.
 use Prim.Native.Nat.{◌-◌}
-use native.Mathlib.Omega.{arith}
-use Rattle.word.proofs.Clearing.{Stays, stays_start, stays_turn, stays_end}
+use Rattle.word.proofs.Clearing.{Stays}
 use Rattle.word.proofs.separators.separators_of.Given as goal
 
 abbrev pub invariant-loop-d : goal.invariant-loop-d

@@ -3,7 +3,6 @@
 -- Assumes nothing.
 use Prim.Native.Nat.{◌^◌, ◌<◌}
 use native.Mathlib.Omega.{arith}
-use Rattle.word.specs.Steps.{EncoderHolds}
 use Rattle.word.proofs.Encoding.{encode_start, next_place, encode_turn, encode_end}
 use Rattle.word.proofs.series.encode_with.Goals as goal
 

@@ -1,10 +1,7 @@
 -- `word::series::encode_with` meets its contract. The invariant: `rest` is the remainder of the value after the weights that are done, and
 -- the word so far has their cells. The measure is what is left.
 -- Assumes nothing.
-use Prim.Native.Nat.{◌^◌, ◌<◌}
-use native.Mathlib.Omega.{arith}
 use Rattle.word.specs.Steps.{EncoderHolds}
-use Rattle.word.proofs.Encoding.{encode_start, next_place, encode_turn, encode_end}
 use Rattle.word.proofs.series.encode_with.Given as goal
 
 abbrev pub invariant-loop-rest : goal.invariant-loop-rest

@@ -2,7 +2,6 @@
 -- Assumes nothing.
 use mathlib.Core.Path.{refl}
 use native.Mathlib.Omega.{arith}
-use borrow.Author.Rules.{rules}
 use borrow.Author.Tests.{le-leb}
 use Rattle.word.proofs.Weights.{weight_next, weight_le}
 use Rattle.word.proofs.series.rest_after.Goals as goal

@@ -1,14 +1,9 @@
 -- `word::series::small_sum` meets its contract. The invariant: the total so far and the sum of what is left make up the whole.
 -- Assumes nothing.
 use mathlib.Core.Path.{◌≡◌}
-use Prim.Native.Nat.{◌+◌, ◌-◌, ◌<◌, ◌^◌}
-use native.Mathlib.Omega.{arith}
-use lib.Bits.{bit_and}
-use lib.Count.{count_trailing_zeros}
+use Prim.Native.Nat.{◌+◌, ◌<◌, ◌^◌}
 use Rattle.cells.specs.Cells.{cells}
 use Rattle.word.specs.Word.{sum}
-use Rattle.word.proofs.SetCells.{Low, low_cell, low_small, low_less}
-use Rattle.word.proofs.Totals.{sum_turn, sum_end}
 use Rattle.word.proofs.series.small_sum.Given as goal
 
 abbrev pub invariant-loop-rest : goal.invariant-loop-rest

@@ -1,9 +1,7 @@
 -- `word::series::sum_with` meets its contract: the sum of the cells after cell 0, and cell 0's weight where that cell is set.
 -- Assumes nothing.
-use mathlib.Core.Path.{sym, ◌∙◌}
 use native.Mathlib.Omega.{arith}
-use borrow.Author.Rules.{rules}
-use Rattle.word.proofs.Totals.{others_fit, first_clear, first_set}
+use Rattle.word.proofs.Totals.{others_fit, first_set}
 use Rattle.word.proofs.series.sum_with.Goals as goal
 
 pub small_sum-low-requires : goal.small_sum-low-requires

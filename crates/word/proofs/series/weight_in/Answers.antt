@@ -1,6 +1,5 @@
 -- `word::series::weight_in` meets its contract: the table's rule at entry n.
 -- Assumes nothing.
-use borrow.Author.Rules.{rules}
 use Rattle.word.proofs.Weights.{table_weight}
 use Rattle.word.proofs.series.weight_in.Goals as goal
 
