@@ -1,4 +1,4 @@
-// The entry points for C, thin: each calls one operation and packs its answer. include/wom.h declares them.
+// The entries, thin: each calls one operation and packs its answer. `wom_c` exports them to C, and include/wom.h declares them.
 //
 // Bits 56 to 63 of an answer are the refusal's number, 0 for none; bits 0 to 55 are the result, or the refusal's index: the word's for 7,
 // the capacity or the bits taken for 8, else 0. The word fill's result has the word in bits 0 to 47 and the pulses in bits 48 to 55, read
@@ -75,8 +75,7 @@ fn pack_encoded(e: Encoded) -> u64
 }
 
 // The word of a value.
-#[unsafe(no_mangle)]
-pub extern "C" fn wom_encode_word(value: u32) -> u64
+pub fn wom_encode_word(value: u32) -> u64
     ensures { result ≡ packed (encode_answer value) }
 {
     pack_encoded(word::encode(value))
@@ -94,8 +93,7 @@ fn pack_decoded(d: Decoded) -> u64
 }
 
 // The value of a word, or 10, 11 or 12.
-#[unsafe(no_mangle)]
-pub extern "C" fn wom_decode_word(word: u64) -> u64
+pub fn wom_decode_word(word: u64) -> u64
     ensures { result ≡ packed (decode_answer word) }
 {
     pack_decoded(word::decode(word))
@@ -114,8 +112,7 @@ fn pack_filled(f: Filled) -> u64
 }
 
 // The word after the fill and the pulses of the fill, or 10, 11 or 12.
-#[unsafe(no_mangle)]
-pub extern "C" fn wom_fill_word(word: u64) -> u64
+pub fn wom_fill_word(word: u64) -> u64
     ensures { result ≡ packed (joined 48 (fill_answer word)) }
 {
     pack_filled(word::fill(word))
@@ -133,8 +130,7 @@ fn pack_measured(m: Measured) -> u64
 }
 
 // The number of data cells of a word after the fill, or 10, 11 or 12.
-#[unsafe(no_mangle)]
-pub extern "C" fn wom_word_capacity(word: u64) -> u64
+pub fn wom_word_capacity(word: u64) -> u64
     ensures { result ≡ packed (capacity_answer word) }
 {
     pack_measured(word::capacity(word))
@@ -160,8 +156,7 @@ fn pack_first_written(w: FirstWritten) -> u64
 }
 
 // Write first: 0, or 1, 2 or 4.
-#[unsafe(no_mangle)]
-pub extern "C" fn wom_write_first(page: &mut [u8], first: &[u8]) -> u64
+pub fn wom_write_first(page: &mut [u8], first: &[u8]) -> u64
     ensures answer { result ≡ packed (write_first_answer page.old first.now) }
     ensures bytes { page.new ≡ write_first_leaves page.old first.now }
 {
@@ -182,8 +177,7 @@ fn pack_first_read(f: FirstRead) -> u64
 }
 
 // Read first: 0, or 1, 5, 6, 7 with the word's index, or 3.
-#[unsafe(no_mangle)]
-pub extern "C" fn wom_read_first(page: &[u8], out: &mut [u8]) -> u64
+pub fn wom_read_first(page: &[u8], out: &mut [u8]) -> u64
     ensures answer { result ≡ packed (read_first_answer page.now out.old) }
     ensures bytes { out.new ≡ read_first_leaves page.now out.old }
 {
@@ -203,8 +197,7 @@ fn pack_page_measured(m: filled::Measured) -> u64
 }
 
 // Page capacity: the bits that a first-round page or a filled page offers, or 1, 5, 6, or 7 with the word's index.
-#[unsafe(no_mangle)]
-pub extern "C" fn wom_page_capacity(page: &[u8]) -> u64
+pub fn wom_page_capacity(page: &[u8]) -> u64
     ensures { result ≡ packed (page_capacity_answer page.now) }
 {
     pack_page_measured(filled::capacity(page))
@@ -223,8 +216,7 @@ fn pack_page_filled(f: PageFilled) -> u64
 }
 
 // Fill page: the pulses that its words take, or 1, 5, 6, or 7 with the word's index.
-#[unsafe(no_mangle)]
-pub extern "C" fn wom_fill_page(page: &mut [u8]) -> u64
+pub fn wom_fill_page(page: &mut [u8]) -> u64
     ensures answer { result ≡ packed (fill_page_answer page.old) }
     ensures bytes { page.new ≡ fill_page_leaves page.old }
 {
@@ -245,8 +237,7 @@ fn pack_second_written(w: SecondWritten) -> u64
 }
 
 // Write second: 0, or 1, 5, 6, 7 with the word's index, or 8 with the page's capacity.
-#[unsafe(no_mangle)]
-pub extern "C" fn wom_write_second(page: &mut [u8], second: &[u8]) -> u64
+pub fn wom_write_second(page: &mut [u8], second: &[u8]) -> u64
     ensures answer { result ≡ packed (write_second_answer page.old second.now) }
     ensures bytes { page.new ≡ write_second_leaves page.old second.now }
 {
@@ -268,8 +259,7 @@ fn pack_second_read(s: SecondRead) -> u64
 }
 
 // Read second: the record's length, or 1, 5, 6, 7 with the word's index, 9 or 3.
-#[unsafe(no_mangle)]
-pub extern "C" fn wom_read_second(page: &[u8], out: &mut [u8]) -> u64
+pub fn wom_read_second(page: &[u8], out: &mut [u8]) -> u64
     ensures answer { result ≡ packed (read_second_answer page.now out.old) }
     ensures bytes { out.new ≡ read_second_leaves page.now out.old }
 {
@@ -290,8 +280,7 @@ fn pack_inspect_written(w: InspectWritten) -> u64
 }
 
 // Write Inspect: 0, or 1, 5, 6, 7 with the word's index, or 8 with the bits that the walks take.
-#[unsafe(no_mangle)]
-pub extern "C" fn wom_write_inspect(page: &mut [u8], second: &[u8]) -> u64
+pub fn wom_write_inspect(page: &mut [u8], second: &[u8]) -> u64
     ensures answer { result ≡ packed (write_inspect_answer page.old second.now) }
     ensures bytes { page.new ≡ write_inspect_leaves page.old second.now }
 {
@@ -313,8 +302,7 @@ fn pack_inspect_read(s: InspectRead) -> u64
 }
 
 // Read Inspect: the record's length, or 1, 5, 6, 7 with the word's index, 9 or 3.
-#[unsafe(no_mangle)]
-pub extern "C" fn wom_read_inspect(page: &[u8], out: &mut [u8]) -> u64
+pub fn wom_read_inspect(page: &[u8], out: &mut [u8]) -> u64
     ensures answer { result ≡ packed (read_inspect_answer page.now out.old) }
     ensures bytes { out.new ≡ read_inspect_leaves page.now out.old }
 {
@@ -332,8 +320,7 @@ fn pack_file_written(f: FileWritten) -> u64
 }
 
 // Write file: the number of bytes written, or 13 or 3.
-#[unsafe(no_mangle)]
-pub extern "C" fn wom_write_file(device: u32, pages: &[u8], out: &mut [u8]) -> u64
+pub fn wom_write_file(device: u32, pages: &[u8], out: &mut [u8]) -> u64
     ensures answer { result ≡ packed (write_file_answer device pages.now out.old) }
     ensures bytes { out.new ≡ write_file_leaves device pages.now out.old }
 {
@@ -353,8 +340,7 @@ fn pack_file_read(f: FileRead) -> u64
 }
 
 // Read file: the device number and the number of pages, or 14, 15 or 16, which is met first, or 3.
-#[unsafe(no_mangle)]
-pub extern "C" fn wom_read_file(file: &[u8], out: &mut [u8]) -> u64
+pub fn wom_read_file(file: &[u8], out: &mut [u8]) -> u64
     ensures answer { result ≡ packed (joined 32 (read_file_answer file.now out.old)) }
     ensures bytes { out.new ≡ read_file_leaves file.now out.old }
 {
@@ -372,8 +358,7 @@ fn pack_placed(p: Placed) -> u64
 }
 
 // Place record: the index of the page that was chosen, or 17 or 18.
-#[unsafe(no_mangle)]
-pub extern "C" fn wom_place_record(block: &mut [u8], marks: u16, second: &[u8]) -> u64
+pub fn wom_place_record(block: &mut [u8], marks: u16, second: &[u8]) -> u64
     ensures answer { result ≡ packed (place_answer block.old marks second.now) }
     ensures bytes { block.new ≡ place_leaves block.old marks second.now }
 {
@@ -391,8 +376,7 @@ fn pack_collected(c: Collected) -> u64
 }
 
 // Collect block: the number of pages kept, or 17 or 19.
-#[unsafe(no_mangle)]
-pub extern "C" fn wom_collect_block(source: &[u8], keep: u16, target: &mut [u8]) -> u64
+pub fn wom_collect_block(source: &[u8], keep: u16, target: &mut [u8]) -> u64
     ensures answer { result ≡ packed (collect_answer source.now keep target.old) }
     ensures bytes { target.new ≡ collect_leaves source.now keep target.old }
 {
