@@ -2,6 +2,8 @@
 
 CC99 = gcc -std=c99 -Wall -Wextra -Werror -pedantic -O2 -I include
 SECOND = CARGO_TARGET_DIR=target/second cargo run --quiet --release --offline --manifest-path tests/second/Cargo.toml --bin
+# The programs and the archive are for every x86-64 processor.
+RT_FOR_ALL = --cpu=x86-64
 VERSION = $(shell sed -n 's/^\#define WOM_VERSION_STRING "\(.*\)"$$/\1/p' include/wom.h)
 DIST = wom-$(VERSION)
 
@@ -14,9 +16,12 @@ help: ## this list
 # that file.
 demo: archive ## proves the library, and shows a page's life on a model of the part: about two minutes
 	@echo 'proving and compiling the programs listing and gain (target/listing.log, target/gain.log)'
-	@rt check listing >target/listing.log 2>&1 || { cat target/listing.log; exit 1; }
-	@rt check gain >target/gain.log 2>&1 || { cat target/gain.log; exit 1; }
-	@mkdir -p target/demo
+	@mkdir -p target/bin target/demo
+	@for name in listing gain; do \
+		rm -f target/bin/$$name; \
+		(cd crates/$$name && rt run $(RT_FOR_ALL) </dev/null) >target/$$name.log 2>&1 || { cat target/$$name.log; exit 1; }; \
+		cp crates/$$name/out/$$name target/bin || exit 1; \
+	done
 	$(CC99) -o target/demo/logger examples/logger.c target/staticlib/libwom.a
 	$(CC99) -o target/demo/two_chips examples/two_chips.c target/staticlib/libwom.a
 	$(CC99) -o target/demo/carry examples/carry.c target/staticlib/libwom.a
@@ -38,15 +43,16 @@ demo: archive ## proves the library, and shows a page's life on a model of the p
 	@printf '\nThe pages at the office, listed:\n'
 	@target/bin/listing <target/demo/office.bin
 
-test: ## the gate: removes target/, proves every crate, tries the must-fail edits, runs the tests: about half an hour
+test: ## the gate: proves every crate, tries the must-fail edits, runs the tests: about half an hour
 	.ci/run
 
 # The old archive goes first, so that none is left where this fails.
 archive: ## proves the library and writes target/staticlib/libwom.a, for C programs with include/wom.h: a minute or two
-	@mkdir -p target
-	@rm -f target/staticlib/libwom.a
+	@mkdir -p target/staticlib
+	@rm -f target/staticlib/libwom.a crates/wom_c/out/libwom_c.a
 	@echo 'proving and compiling the library (target/archive.log)'
-	@rt staticlib wom >target/archive.log 2>&1 || { cat target/archive.log; exit 1; }
+	@(cd crates/wom_c && rt lib $(RT_FOR_ALL)) >target/archive.log 2>&1 || { cat target/archive.log; exit 1; }
+	@cp crates/wom_c/out/libwom_c.a target/staticlib/libwom.a
 
 # The annex speaks of one kit: what hands the annex on is refused with another.
 same-kit:
