@@ -111,7 +111,7 @@ static const struct {
     CONSTANT(WOM_MARK(15), 0x8000),
     CONSTANT(WOM_MARK(0) | WOM_MARK(15), 0x8001),
     CONSTANT(sizeof WOM_MARK(15), 2),
-    CONSTANT(WOM_VERSION, 70200),
+    CONSTANT(WOM_VERSION, 70100),
 };
 
 static void check_constants(void)
@@ -145,10 +145,7 @@ static const struct {
     {14, "file cut"},
     {15, "file field"},
     {16, "file tail"},
-    {17, "block length"},
-    {18, "no page"},
-    {19, "target not blank"},
-    {20, "unknown refusal"},
+    {17, "unknown refusal"},
     {255, "unknown refusal"},
     {4294967295u, "unknown refusal"},
 };
@@ -167,7 +164,7 @@ static void check_texts(void)
         check_text(wom_refusal_name(texts[i].number), texts[i].expected);
     }
     in_case("WOM_VERSION_STRING", WOM_VERSION);
-    check_text(WOM_VERSION_STRING, "7.2.0");
+    check_text(WOM_VERSION_STRING, "7.1.0");
 }
 
 static const struct {
