@@ -4,7 +4,7 @@ ghost use Rattle.window.specs.Words.{start, page_words, put_words};
 ghost use Rattle.word.specs.Fill.{is_filled};
 ghost use Rattle.rows.specs.Page.{lowest, fill_all, pulses_all, read_all};
 
-use window::{load_word, store_word};
+use window::{exchange_word, load_word};
 use word::second::data_cells;
 use word::separators::{fill_word, is_filled, pulses_of};
 
@@ -25,7 +25,7 @@ pub fn fill_words(page: &mut [u8], n: usize) -> u32
     for i in 0..n {
         let before = load_word(page, i);
         let after = fill_word(before);
-        store_word(page, i, after);
+        exchange_word(page, i, before, after);
         total += pulses_of(before, after);
     }
     total

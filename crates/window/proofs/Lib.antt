@@ -3,3 +3,4 @@ pub mod Words
 pub mod Windows
 pub mod Buffers
 pub mod Copying
+mod Exchanging

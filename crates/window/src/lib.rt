@@ -72,6 +72,24 @@ pub fn store_word(page: &mut [u8], i: usize, word: u64)
     put_bytes(page, k, 8, replaced(old, cells_after(i), 46, word));
 }
 
+// A number with the 46 bits above its s lowest, which are those of `was`, replaced by those of v: by what the two differ, once.
+fn exchanged(old: u64, s: usize, was: u64, v: u64) -> u64
+    requires { (s ≤ 18) × (v < 2 ^ 46) × (was ≡ old / 2 ^ s % 2 ^ 46) }
+    ensures { result ≡ old / 2 ^ (46 + s) * 2 ^ (46 + s) + (v * 2 ^ s + old % 2 ^ s) }
+{
+    u64::wrapping_add(old, u64::wrapping_sub(v, was) << s)
+}
+
+// Puts word i of a page where it is known what it was; no other cell changes.
+pub fn exchange_word(page: &mut [u8], i: usize, was: u64, word: u64)
+    requires { (start i + 46 ≤ 8 * length page.old) × (i < 2 ^ 16) × (was ≡ number (word_at page.old i)) × (word < 2 ^ 46) }
+    ensures { page.new ≡ put_word page.old i (cells 46 word) }
+{
+    let k = window_start(i);
+    let old = window(page, k);
+    put_bytes(page, k, 8, exchanged(old, cells_after(i), was, word));
+}
+
 // Puts the count low bits of v as the cells from place `at` on; no other cell changes.
 pub fn put_cells(page: &mut [u8], at: usize, count: usize, v: u64)
     requires { (at / 8 + 8 ≤ length page.old) × (1 ≤ count) × (count ≤ 56) × (v < 2 ^ count) }

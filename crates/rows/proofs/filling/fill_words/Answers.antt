@@ -20,9 +20,9 @@ pub fill_word-after-requires : goal.fill_word-after-requires
 fill_word-after-requires c =
     loaded_lt _ _ _ (omega arith) c.load_word-before.ensures
 
-pub store_word-requires : goal.store_word-requires
-store_word-requires c =
-    (omega arith, omega arith, filled_small _ _ c.fill_word-after.ensures)
+pub exchange_word-requires : goal.exchange_word-requires
+exchange_word-requires c =
+    (omega arith, omega arith, c.load_word-before.ensures, filled_small _ _ c.fill_word-after.ensures)
 
 pub pulses_of-total-requires : goal.pulses_of-total-requires
 pulses_of-total-requires c =
@@ -39,6 +39,6 @@ pub loop-i-preserved : goal.loop-i-preserved
 loop-i-preserved c =
     let counted : Summing fill_pulses 46 c.args.page.now (c.loop-i.total + c.pulses_of-total.result) (c.loop-i.i + 1) = let p = pulses_turn _ _ _ c.loop-i.invariant.2 (omega arith) _ _ _ c.load_word-before.ensures c.fill_word-after.ensures c.pulses_of-total.ensures in
     summing_turn fill_pulses 46 _ _ _ _ p.0 p.1 c.loop-i.invariant.3 in
-    let t : Filling c.args.page.now c.store_word.new.page (c.loop-i.i + 1) =
-    filling_turn _ _ _ c.loop-i.invariant.2 (omega arith) _ _ _ c.load_word-before.ensures c.fill_word-after.ensures c.store_word.ensures in
+    let t : Filling c.args.page.now c.exchange_word.new.page (c.loop-i.i + 1) =
+    filling_turn _ _ _ c.loop-i.invariant.2 (omega arith) _ _ _ c.load_word-before.ensures c.fill_word-after.ensures c.exchange_word.ensures in
     (omega arith, ap length t ∙ length_put_words _ _, t, counted)
