@@ -14,7 +14,7 @@ help: ## this list
 # A page's life in a logger and the page that it chooses in a block, then the listing and the gain sheet of the pages that it leaves, a page's
 # life on chips of both page sizes, the file that carries the logger's seven whole pages away, and the same pages at the office, read from
 # that file.
-demo: archive ## proves the library, and shows a page's life on a model of the part: about two minutes
+demo: archive ## proves the library, and shows a page's life on a model of the part: a minute, and what is still to be proved
 	@echo 'proving and compiling the programs listing and gain (target/listing.log, target/gain.log)'
 	@mkdir -p target/bin target/demo
 	@for name in listing gain; do \
@@ -43,11 +43,11 @@ demo: archive ## proves the library, and shows a page's life on a model of the p
 	@printf '\nThe pages at the office, listed:\n'
 	@target/bin/listing <target/demo/office.bin
 
-test: ## the gate: proves every crate, tries the must-fail edits, runs the tests: about half an hour
+test: ## the gate: proves every crate, tries the must-fail edits, runs the tests
 	.ci/run
 
 # The old archive goes first, so that none is left where this fails.
-archive: ## proves the library and writes target/staticlib/libwom.a, for C programs with include/wom.h: a minute or two
+archive: ## proves the library and writes target/staticlib/libwom.a, for C programs with include/wom.h: a minute, and what is still to be proved
 	@mkdir -p target/staticlib
 	@rm -f target/staticlib/libwom.a crates/wom_c/out/libwom_c.a
 	@echo 'proving and compiling the library (target/archive.log)'
