@@ -48,7 +48,7 @@ pub record ChoosesBest : Type 0 where
 
 -- What a page offers, of every block:
 pub record OffersRight : Type 0 where
-  -- its capacity, exactly where it is marked and a first_round page
+  -- its capacity, exactly where it is marked and a first-round page
   pub first_round : (block : List ℕ) (marks i room : ℕ) → Bytes block
       → (offer_at block marks i ≡ Room room) ↔ (T (marked marks i) × FirstRoundOf page256 (page_at block i) × (room ≡ room_first page256 (page_at block i)))
   -- by the operations: where it is marked, read first accepts it, "given output enough", and page capacity answers so much

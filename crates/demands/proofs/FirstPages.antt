@@ -68,7 +68,7 @@ module _ {σ : Shape} (f : Sound σ) where
   words_written bs =
       ap (λ (P : List ℕ). page_words P n) (first_page_blank bs) ∙ laid_words f 1 0 0 (first_words n bs) (row_first_words n bs) t
 
-  -- the record of a first_round page, written again
+  -- the record of a first-round page, written again
   first_again : (P : List ℕ) → FirstRoundOf σ P → first_page σ blank (first_record (page_words P n)) ≡ P
   first_again P p =
       let ws = page_words P n in

@@ -137,7 +137,7 @@ module _ {σ : Shape} (f : Sound σ) (P : List ℕ) (p : FirstRoundOf σ P) wher
   unfolding newly_set cells bit first rest
   state_of = rw (p.in_state, filled_filled.in_state) refl
 
--- ---- what is answered is the page's pulses, and the page is a first_round page
+-- ---- what is answered is the page's pulses, and the page is a first-round page
 
 module _ {σ : Shape} (f : Sound σ) where
   module _ (P : List ℕ) (n : ℕ) (z : SizedOf σ P) (b : Bytes P) (e : fill_page_answer P ≡ result n) where

@@ -14,7 +14,7 @@ use Rattle.block.specs.Answer.{place_answer, place_leaves}
 use Rattle.block.specs.Claims.{IsBlock}
 use Rattle.demands.specs.Demands.{data_cells_of}
 
--- page j of B may take R: it is marked, "whose first record may be given up", a first_round page, and R fits it
+-- page j of B may take R: it is marked, "whose first record may be given up", a first-round page, and R fits it
 pub record MayTake (B : List ℕ) (marks : ℕ) (R : List ℕ) (j : ℕ) : Type 0 where
   pub there : j < 16
   pub may_go : T (marked marks j)
@@ -34,7 +34,7 @@ pub record PlacedRecords : Type 0 where
   -- "18 exactly when no marked page that is not passed over fits"
   pub refused_18 : (B R : List ℕ) (marks k : ℕ) → Bytes B → Bytes R
       → (place_answer B marks R ≡ refusal 18 k) ↔ (IsBlock B × ((j : ℕ) → ¬ MayTake B marks R j) × (k ≡ 0))
-  -- a record of up to 82 bytes is placed where some marked page is a first_round page; one of more than 126 bytes never is
+  -- a record of up to 82 bytes is placed where some marked page is a first-round page; one of more than 126 bytes never is
   pub sure : (B R : List ℕ) (marks j : ℕ) → Bytes B → Bytes R → IsBlock B → length R ≤ 82 → j < 16 → T (marked marks j)
       → FirstRoundOf page256 (page_at B j) → (i : ℕ) × (place_answer B marks R ≡ result i)
   pub too_long : (B R : List ℕ) (marks : ℕ) → Bytes B → Bytes R → IsBlock B → 126 < length R → place_answer B marks R ≡ refusal 18 0

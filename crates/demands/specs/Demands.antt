@@ -20,9 +20,9 @@
 --   x ≡ y                  x and y are the same, of lists: in length and in every element
 --   T b                    the test b holds; b ≡ false: it does not
 --   Bytes P                each element is below 256, as it is in every slice of the code
---   get_or P i 0             byte i of P, 0 after its end; `take`, `drop`: the first so many, the others; `++`: one after another
+--   get_or P i 0           byte i of P, 0 after its end; `take`, `drop`: the first so many, the others; `++`: one after another
 --   result v, refusal n i  the answer is the result v; it is refusal number n with index i; `result (v, p)`: the results v and p
---   c.into, c.put ..     of the code c: its parts, which rows/specs/Code.antt explains
+--   c.into, c.put ..       of the code c: its parts, which rows/specs/Code.antt explains
 -- Assumes nothing.
 use Rattle.std.specs.Prelude.{Bool, List, [], ◌∷◌, ◌++◌, ◌↔◌, ◌⊎◌, ◌≡◌, ℕ, ◌+◌, ◌*◌, ◌/◌, ◌%◌, ◌≤◌, ◌<◌, T, length, take, drop, get_or}
 use Rattle.cells.specs.Cells.{number, cells, bit, pulses}
@@ -132,19 +132,19 @@ pub record ReaderOf (c : Code) : Type 0 where
   pub refused_by : (P out : List ℕ) → RefusesBy (1 ∷ 5 ∷ 6 ∷ 7 ∷ 9 ∷ 3 ∷ []) (read_answer c P out)
   pub refused_leaves : (P out : List ℕ) (n i : ℕ) → read_answer c P out ≡ refusal n i → read_leaves c P out ≡ out
 
--- Demand 2's second sentence, of a code with its own writing, on pages of a shape. `ahead` is the step ahead of its writer on a first_round page:
+-- Demand 2's second sentence, of a code with its own writing, on pages of a shape. `ahead` is the step ahead of its writer on a first-round page:
 -- fill page, or nothing.
 pub record TwiceWrittenOf (c : Code) (ahead : List ℕ → List ℕ) (s : Shape) : Type 0 where
-  -- "With an output long enough, a page is accepted as twice written exactly when filling some first_round page and writing some record over it
-  -- gives those 256 bytes"; Inspect: "The reader accepts exactly what some first_round page and record give". It "covers all bytes of a page's
+  -- "With an output long enough, a page is accepted as twice written exactly when filling some first-round page and writing some record over it
+  -- gives those 256 bytes"; Inspect: "The reader accepts exactly what some first-round page and record give". It "covers all bytes of a page's
   -- own size"
   pub twice_written : (page out : List ℕ) → SizedOf s page → Bytes page → record_length page ≤ length out
       → ((n : ℕ) × (read_answer c page out ≡ result n))
       ↔ ((P : List ℕ) × (R : List ℕ) × FirstRoundOf s P × FitsOf c s R P × (write_leaves c (ahead P) R ≡ page))
-  -- the pages that the writer takes are exactly what the step ahead leaves of first_round pages
+  -- the pages that the writer takes are exactly what the step ahead leaves of first-round pages
   pub ready : (F : List ℕ) → ReadyOf c s F ↔ ((P : List ℕ) × FirstRoundOf s P × (ahead P ≡ F))
 
--- Demand 3 of a code with its own writing, without the figures of the fill code. For all first_round pages P and Q of a shape, every record R
+-- Demand 3 of a code with its own writing, without the figures of the fill code. For all first-round pages P and Q of a shape, every record R
 -- that fits P and every record S that fits Q: ...
 pub record WritingOf (c : Code) (ahead : List ℕ → List ℕ) (s : Shape) : Type 0 where
   -- "writing R over P is accepted, leaves exactly the outcome that the rules define": writing over what the step ahead leaves
@@ -177,7 +177,7 @@ pub record WritingOf (c : Code) (ahead : List ℕ → List ℕ) (s : Shape) : Ty
   -- Q are alike or not"
   pub differ : (P Q R S : List ℕ) → FirstRoundOf s P → FirstRoundOf s Q → FitsOf c s R P → FitsOf c s S Q → ¬ (R ≡ S)
       → (i : ℕ) × (i < s.size) × ¬ (get_or (outcome_of c s P R) i 0 ≡ get_or (outcome_of c s Q S) i 0)
-  -- a record that is short enough fits each first_round page, and one that fits is no longer than the limit of that code and page
+  -- a record that is short enough fits each first-round page, and one that fits is no longer than the limit of that code and page
   pub always_in : (P R : List ℕ) → FirstRoundOf s P → Bytes R → length R ≤ sure c s → FitsOf c s R P
   pub never_in : (P R : List ℕ) → FirstRoundOf s P → FitsOf c s R P → length R ≤ longest c s
 
@@ -267,12 +267,12 @@ pub record Demand1 : Type 0 where
       × (longest fill_code page512 ≡ 253) × (longest inspect_code page512 ≡ 495)
 
 -- Demand 2. First-round pages are the Zeckendorf sums of the 32-bit words, 46 cells a word, as the two published papers define them,
--- written and read back exactly. With an output long enough, a page is accepted as twice written exactly when filling some first_round
+-- written and read back exactly. With an output long enough, a page is accepted as twice written exactly when filling some first-round
 -- page and writing some record over it gives those 256 bytes; it "covers all bytes of a page's own size".
 
 -- The first sentence, on pages of a shape.
 pub record FirstPagesOf (s : Shape) : Type 0 where
-  -- a page is first_round exactly when some record of its size written to a blank page gives it
+  -- a page is first-round exactly when some record of its size written to a blank page gives it
   pub first_round : (P : List ℕ)
       → FirstRoundOf s P ↔ ((D : List ℕ) × Bytes D × (length D ≡ s.first) × (write_first_leaves (blank_of s.size) D ≡ P))
   -- "the Zeckendorf sums of the 32-bit words, 46 cells a word": the 46 cells of each word, and their sum. (`OneLegalWord` of
@@ -296,7 +296,7 @@ pub record Demand2 : Type 0 where
 -- Demand 3's figures, which are the fill code's alone, on pages of a shape: the least and the greatest capacity, the record that is sure to fit,
 -- and the longest that fits some page.
 pub record FillFiguresOf (s : Shape) (fewest most sureBytes longestBytes : ℕ) : Type 0 where
-  -- "The capacity answered for a first_round page is the number of its data cells after the fill."
+  -- "The capacity answered for a first-round page is the number of its data cells after the fill."
   pub capacity_counts : (P : List ℕ) → FirstRoundOf s P → page_capacity_answer P ≡ result (data_cells_of s P)
   -- ... and so is the capacity of its words, and the room with which `FitsOf fill_code` compares a record
   pub capacity_is : (P : List ℕ) → FirstRoundOf s P → capacity_all (page_words P s.words) ≡ data_cells_of s P
@@ -309,7 +309,7 @@ pub record FillFiguresOf (s : Shape) (fewest most sureBytes longestBytes : ℕ) 
   pub greatest : (P : List ℕ) → FirstRoundOf s P → data_cells_of s P ≤ most
   pub least_met : (P : List ℕ) × FirstRoundOf s P × (page_capacity_answer P ≡ result fewest)
   pub greatest_met : (P : List ℕ) × FirstRoundOf s P × (page_capacity_answer P ≡ result most)
-  -- "and so every record of up to 82 bytes fits each first_round page"; it is accepted over each filled page
+  -- "and so every record of up to 82 bytes fits each first-round page"; it is accepted over each filled page
   pub sure_fits : (P R : List ℕ) → FirstRoundOf s P → Bytes R → length R ≤ sureBytes → FitsOf fill_code s R P
   pub sure_filled : (F R : List ℕ) → FilledOf s F → length R ≤ sureBytes → write_second_answer F R ≡ result 0
   -- one byte more does not always fit; the longest record that fits some page, and none is longer

@@ -56,5 +56,5 @@ file_reading = record {
   refused_leaves = λ file out m k e. refused_leaves (read_file_answer file out) out (at_start (pages_told (file_told file)) out) m k e;
   accepted_leaves = holds_leaves;
   comes_back = comes_back;
-  passed_over_lem = λ s tag x c g out f w. alike (start ++ (x ++ (field tag c ++ g))) (start ++ (x ++ g)) out (passes tag c g f w);
+  passed_over = λ s tag x c g out f w. alike (start ++ (x ++ (field tag c ++ g))) (start ++ (x ++ g)) out (passes tag c g f w);
 }

@@ -58,6 +58,6 @@ pub record FileReading : Type 0 where
       × (read_file_leaves (take v (write_file_leaves d P room)) out ≡ P ++ drop (length P) out)
   -- a field that is passed over, wherever fields are in order before it, changes neither the answer, refusals included, nor what is left,
   -- whatever follows
-  pub passed_over_lem : (s tag : ℕ) (x contents g out : List ℕ) → Fields s x → PassedOver tag contents
+  pub passed_over : (s tag : ℕ) (x contents g out : List ℕ) → Fields s x → PassedOver tag contents
       → (read_file_answer (start ++ (x ++ (field tag contents ++ g))) out ≡ read_file_answer (start ++ (x ++ g)) out)
       × (read_file_leaves (start ++ (x ++ (field tag contents ++ g))) out ≡ read_file_leaves (start ++ (x ++ g)) out)

@@ -1,4 +1,5 @@
-// Whole buffers from a reader and to a writer. A read or a write that fails ends the stream, as its end does.
+// Whole buffers from a reader and to a writer. A read that fails ends the input, as its end does. A write that a signal interrupts is tried
+// again; one that fails ends the output.
 #![tactic(auto)]
 
 ghost use Rattle.std.specs.Prelude.{◌≤◌, length};
