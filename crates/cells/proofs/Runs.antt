@@ -1,16 +1,16 @@
 -- The number that a run of bytes writes, by parts and byte by byte.
 -- Assumes nothing.
-use mathlib.Core.List.{List, ◌++◌, append-nil}
-use mathlib.Core.Path.{◌≡◌, ap, ◌∙◌}
-use Prim.Native.Nat.{ℕ, ◌+◌, ◌*◌, ◌^◌, ◌≤◌, ◌<◌}
+use mathlib.Core.List.{List, [], ◌∷◌, ◌++◌, append-nil}
+use mathlib.Core.Path.{◌≡◌, ap, ap₂, ◌∙◌}
+use Prim.Native.Nat.{ℕ, suc, ◌+◌, ◌*◌, ◌^◌, ◌≤◌, ◌<◌}
 use native.Mathlib.Nat.{lt_of_lt_of_le, min-le_left}
 use native.Mathlib.Omega.{arith}
 use lib.ListN.{length, take, drop, get_or, length-take, length-drop}
 use lib.Pow.{pow_mono}
 use lib.Seq.{length-take-le, drop-drop, take-add, drop-cons}
 use Rattle.cells.specs.Cells.{number, cells}
-use Rattle.cells.specs.Bytes.{bits}
-use Rattle.cells.proofs.Numbers.{number_lt, number_cells, number_append}
+use Rattle.cells.specs.Bytes.{bits, Bytes}
+use Rattle.cells.proofs.Numbers.{length_cells, number_lt, number_cells, number_append}
 use Rattle.cells.proofs.Bytes.{length_bits, bits_append}
 
 -- j bytes, of at most n, write a number of 8 * n binary digits
@@ -30,14 +30,14 @@ window_join l k m n h =
     ∙ number_append (bits (take m (drop k l))) (bits (take n (drop (k + m) l)))
     ∙ ap (λ (x : ℕ). number (bits (take m (drop k l))) * 2 ^ x + number (bits (take n (drop (k + m) l)))) e
 
--- a window of one byte
-number_byte : (l : List ℕ) (k : ℕ) → k < length l → get_or l k 0 < 256 → number (bits (take 1 (drop k l))) ≡ get_or l k 0
+-- one byte more
+pub number_more : (l : List ℕ) (i : ℕ) → Bytes l → i < length l → number (bits (take (i + 1) l)) ≡ number (bits (take i l)) * 256 + get_or l i 0
 unfolding bits
-number_byte l k h b =
-    ap (λ (r : List ℕ). number (bits (take 1 r))) (drop-cons l k 0 h)
-    ∙ ap number (append-nil (cells 8 (get_or l k 0))) ∙ number_cells 8 (get_or l k 0) b
-
-pub window_step : (l : List ℕ) (k j : ℕ) → k + j < length l → get_or l (k + j) 0 < 256
-    → number (bits (take (j + 1) (drop k l))) ≡ number (bits (take j (drop k l))) * 256 + get_or l (k + j) 0
-window_step l k j h b =
-    window_join l k j 1 (omega arith) ∙ ap (λ (x : ℕ). number (bits (take j (drop k l))) * 256 + x) (number_byte l (k + j) h b)
+number_more l i b h =
+    let t : drop i l ≡ get_or l i 0 ∷ drop (suc i) l = drop-cons l i 0 h in
+    ap (λ (r : List ℕ). number (bits r)) (take-add i 1 l ∙ ap (λ (r : List ℕ). take i l ++ take 1 r) t)
+    ∙ ap number (bits_append (take i l) (get_or l i 0 ∷ []))
+    ∙ number_append (bits (take i l)) (cells 8 (get_or l i 0) ++ [])
+    ∙ ap₂ (λ (x y : ℕ). number (bits (take i l)) * 2 ^ x + y)
+    (ap length (append-nil (cells 8 (get_or l i 0))) ∙ length_cells 8 (get_or l i 0))
+    (ap number (append-nil (cells 8 (get_or l i 0))) ∙ number_cells 8 (get_or l i 0) (b i))

@@ -18,13 +18,11 @@ use Rattle.word.specs.Word.{sparse}
 use Rattle.word.specs.Fill.{fill, read, put, clear, well_formed, capacity}
 use Rattle.word.proofs.Filling.{capacity_le}
 use Rattle.word.proofs.SecondBits.{sparse_clear}
-use Rattle.word.proofs.Clearing.{clear_lt, cells_clear}
 use Rattle.word.proofs.Claims.{capacity_bounds, well_formed_words}
 use Rattle.rows.specs.Page.{read_all}
 use Rattle.rows.proofs.SecondWords.{read_all_more}
 use Rattle.rows.proofs.Scanning.{Passed, passed_none, passed_more}
 use Rattle.rows.proofs.Counting.{Counting, counting_start, counting_turn}
-use Rattle.rows.proofs.Loaded.{loaded_cells}
 
 -- ---- word i and its separators
 
@@ -36,26 +34,23 @@ formed_some w e f =
     let c : length (read (clear w)) ≡ length (read (fill o.0)) = ap (λ (v : List Bool). length (read v)) o.2 in
     omega (arith, c, well_formed_words.same_count w, capacity_bounds.least o.0 o.1)
 
--- word i, held as w, is well formed, and s has its separators
-pub record Separated (page : List ℕ) (i w s : ℕ) : Type 0 where
-  pub is_word : cells 46 w ≡ word_at page i
-  pub small : s < 2 ^ 46
-  pub apart : sparse (cells 46 s) ≡ true
+-- word i is well formed, and s has its separators
+pub record Separated (page : List ℕ) (i : ℕ) (s : List Bool) : Type 0 where
+  pub apart : sparse s ≡ true
   pub formed : well_formed (word_at page i) ≡ true
-  pub count : length (read (cells 46 s)) ≡ length (read (word_at page i))
+  pub count : length (read s) ≡ length (read (word_at page i))
   pub most : length (read (word_at page i)) ≤ 23
   pub some : 1 ≤ length (read (word_at page i))
 
-pub separated : (page : List ℕ) (i w s : ℕ) → start i + 46 ≤ 8 * length page → w ≡ number (word_at page i) → s ≡ number (clear (cells 46 w))
-    → well_formed (word_at page i) ≡ true → Separated page i w s
+-- as a test of it tells
+pub separated : (page : List ℕ) (i : ℕ) (w s : List Bool) (t : Bool) → start i + 46 ≤ 8 * length page → w ≡ word_at page i → s ≡ clear w
+    → t ≡ well_formed w → t ≡ true → Separated page i s
 unfolding read
-separated page i w s h e es f =
+separated page i w s t h e es et k =
     let v = word_at page i in
-    let ew : cells 46 w ≡ v = loaded_cells page i w h e in
-    let ec : cells 46 s ≡ clear v = ap (cells 46) es ∙ cells_clear w ∙ ap clear ew in
+    let f : well_formed v ≡ true = ap well_formed (sym e) ∙ sym et ∙ k in
+    let ec : s ≡ clear v = es ∙ ap clear e in
     record {
-      is_word = ew;
-      small = omega (arith, clear_lt w);
       apart = ap sparse ec ∙ is_true (sparse (clear v)) (clear_apart v);
       formed = f;
       count = ap (λ (x : List Bool). length (read x)) ec ∙ well_formed_words.same_count v;
@@ -67,10 +62,11 @@ separated page i w s h e es f =
     clear_apart v = unfold clear put sparse first in sparse_clear false v
 
 -- the bits that are read from it fit their number
-pub read_fits : (page : List ℕ) (i w s n v : ℕ) → Separated page i w s → n ≡ length (read (cells 46 s)) → v ≡ number (read (cells 46 w)) → v < 2 ^ n
-read_fits page i w s n v sw en ev =
-    let e : length (read (cells 46 w)) ≡ n = ap (λ (l : List Bool). length (read l)) sw.is_word ∙ sym (en ∙ sw.count) in
-    subst (λ (k : ℕ). v < 2 ^ k) e (subst (λ (x : ℕ). x < 2 ^ length (read (cells 46 w))) (sym ev) (number_lt (read (cells 46 w))))
+pub read_fits : (page : List ℕ) (i : ℕ) (w s : List Bool) (n v : ℕ) → w ≡ word_at page i → Separated page i s → n ≡ length (read s) → v ≡ number (read w)
+    → v < 2 ^ n
+read_fits page i w s n v e q en ev =
+    let k : length (read w) ≡ n = ap (λ (l : List Bool). length (read l)) e ∙ sym (en ∙ q.count) in
+    subst (λ (m : ℕ). v < 2 ^ m) k (subst (λ (x : ℕ). x < 2 ^ length (read w)) (sym ev) (number_lt (read w)))
 
 -- ---- the loop
 
@@ -91,16 +87,16 @@ module _ (page buffer₀ : List ℕ) where
   pub gathering_length : (buffer : List ℕ) (at i : ℕ) → Gathering buffer at i → length buffer ≡ length buffer₀
   gathering_length buffer at i g = ap length g.held ∙ length_put_cells buffer₀ 0 (read_all (page_words page i))
 
-  pub gathering_turn : (buffer next : List ℕ) (at i w s n v : ℕ) → Gathering buffer at i → 23 * i ≤ 8 * length buffer₀ → Separated page i w s
-      → n ≡ length (read (cells 46 s)) → v ≡ number (read (cells 46 w)) → next ≡ put_cells buffer at (cells n v)
+  pub gathering_turn : (buffer next : List ℕ) (at i : ℕ) (w s : List Bool) (n v : ℕ) → Gathering buffer at i → 23 * i ≤ 8 * length buffer₀
+      → w ≡ word_at page i → Separated page i s → n ≡ length (read s) → v ≡ number (read w) → next ≡ put_cells buffer at (cells n v)
       → Gathering next (at + n) (i + 1)
-  gathering_turn buffer next at i w s n v g h sw en ev ex =
+  gathering_turn buffer next at i w s n v g h ew sw en ev ex =
       let x = word_at page i in
       let r = read_all (page_words page i) in
       let more : read_all (page_words page (i + 1)) ≡ r ++ read x = ap read_all (page_words_more page i) ∙ read_all_more (page_words page i) x in
       let nx : n ≡ length (read x) = en ∙ sw.count in
       let vx : cells n v ≡ read x =
-      ap₂ cells nx (ev ∙ ap (λ (l : List Bool). number (read l)) sw.is_word) ∙ cells_number (read x) in
+      ap₂ cells nx (ev ∙ ap (λ (l : List Bool). number (read l)) ew) ∙ cells_number (read x) in
       let at0 : at ≡ 0 + length r = g.counted.sum ∙ sym (zero-add (length r)) in
       record {
         formed = passed_more well_formed page i g.formed sw.formed;

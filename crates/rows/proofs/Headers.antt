@@ -1,13 +1,13 @@
 -- The bytes of a page that are not in its words: what refusal 6 says of them, and the state and a record's length put.
 -- Assumes nothing.
-use mathlib.Core.Bool.{true, false, not}
+use mathlib.Core.Bool.{true, false}
 use mathlib.Core.List.{List, ◌∷◌}
 use mathlib.Core.Logic.{◌⊎◌, inl, inr, ⊎_elim}
 use mathlib.Core.Path.{◌≡◌, refl, sym, ap, ◌∙◌}
 use Prim.Native.Nat.{ℕ, zero, suc, ◌+◌, ◌*◌, ◌≤◌, ◌<◌}
 use native.Mathlib.Numerals.{add-one}
 use native.Mathlib.Omega.{arith}
-use borrow.Author.Tests.{eq-eqb, ne_eqb, le-ltb}
+use borrow.Author.Tests.{eq-eqb, ne_eqb}
 use lib.Dec.{T}
 use lib.ListN.{length, drop, get_or, set, drop_of_length-le, length-drop}
 use lib.Seq.{set_split, drop-cons, drop-drop}
@@ -36,11 +36,6 @@ module _ (n : ℕ) (P : List ℕ) where
       some : (b : ℕ) → 0 < b + 256 * byte2 P → ¬ (b ≡ 0) ⊎ (¬ (byte2 P ≡ 0) ⊎ (zeros (tail n P) ≡ false))
       some zero h = inr (inl (λ e. omega arith))
       some (suc b) h = inl (λ e. omega arith)
-
-  -- where the length is right, the bytes after the words decide
-  pub header_tail : (most : ℕ) → record_length P ≤ most → bad_header most n P ≡ not (zeros (tail n P))
-  unfolding bad_header
-  header_tail most h = rw (le-ltb most (record_length P) h) refl
 
 -- ---- the state and a record's length put
 

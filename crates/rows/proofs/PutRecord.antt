@@ -1,37 +1,29 @@
 -- A record's bits put into the words of a page, one after another: what holds before word i, and a turn for it. Assumes nothing.
 use mathlib.Core.Bool.{Bool, false}
 use mathlib.Core.List.{List, [], ◌∷◌, ◌++◌}
-use mathlib.Core.Path.{◌≡◌, sym, ap, ap₂, ◌∙◌, subst}
+use mathlib.Core.Path.{◌≡◌, sym, ap, ap₂, ◌∙◌}
 use Prim.Native.Nat.{ℕ, ◌+◌, ◌*◌, ◌^◌, ◌≤◌, ◌<◌}
 use native.Mathlib.Omega.{arith}
-use lib.Dec.{T}
 use lib.ListN.{length, drop}
-use Rattle.cells.specs.Cells.{number, cells, fit}
+use Rattle.cells.specs.Cells.{cells, fit}
 use Rattle.cells.specs.Bytes.{bits, Bytes}
-use Rattle.cells.proofs.Numbers.{length_cells, number_below, cells_of}
+use Rattle.cells.proofs.Tests.{is_true}
 use Rattle.window.specs.Words.{start, pieces, word_at, page_words, put_word, put_words, Words}
 use Rattle.window.proofs.Words.{put_words_none, put_words_more, word_at_put_words, length_page_words, Words-page_words, page_words_more, length_word_at}
 use Rattle.word.specs.Fill.{read, put, is_filled}
 use Rattle.word.proofs.SecondBits.{length_put, put_fit}
-use Rattle.rows.specs.Page.{read_all, put_all}
+use Rattle.rows.specs.Page.{lowest, read_all, put_all}
 use Rattle.rows.proofs.SecondWords.{put_all_more, length_put_all, Words-put_all}
+use Rattle.rows.proofs.Scanning.{all_passed}
 use Rattle.rows.proofs.Loaded.{OwnSeparators, own_separators}
 use Rattle.rows.proofs.Counting.{Counting, counting_start, counting_turn}
 
--- the number that `put_bits` gives is the word with the record's bits from bit `at` on put into its data cells
-put_number : (v l : List Bool) (w b r at : ℕ) → length v ≡ 46 → cells 46 w ≡ v
-    → cells (length (read (cells 46 w))) b ≡ fit (length (read (cells 46 w))) (drop at l)
-    → r ≡ number (put (cells 46 w) (cells (length (read (cells 46 w))) b)) → cells 46 r ≡ put v (drop at l)
+-- the word that `put_bits` gives is the word with the record's bits from bit `at` on put into its data cells
+put_next : (w l r : List Bool) (b n at : ℕ) → n ≡ length (read w) → cells n b ≡ fit n (drop at l) → r ≡ put w (cells (length (read w)) b)
+    → r ≡ put w (drop at l)
 unfolding put read
-put_number v l w b r at e ew eb er =
-    let x = drop at l in
-    let y : put (cells 46 w) (cells (length (read (cells 46 w))) b) ≡ put v x =
-    ap (put (cells 46 w)) eb ∙ put_fit false (cells 46 w) x ∙ ap (λ (u : List Bool). put u x) ew in
-    ap (cells 46) (er ∙ ap number y) ∙ cells_of 46 (put v x) (length_put false v x ∙ e)
-
-pub put_small : (w v : ℕ) (l : List Bool) → v ≡ number (put (cells 46 w) l) → v < 2 ^ 46
-unfolding put
-put_small w v l e = omega (arith, number_below 46 (put (cells 46 w) l) (length_put false (cells 46 w) l ∙ length_cells 46 w))
+put_next w l r b n at en eb er =
+    er ∙ ap (λ (k : ℕ). put w (cells k b)) (sym en) ∙ ap (put w) (eb ∙ ap (λ (k : ℕ). fit k (drop at l)) en) ∙ put_fit false w (drop at l)
 
 module _ (page₀ second : List ℕ) where
   -- the words before word i with the record's bits
@@ -69,22 +61,29 @@ module _ (page₀ second : List ℕ) where
         ap (λ (p : List ℕ). word_at p i) r.words_done
         ∙ word_at_put_words page₀ (done i) i (Words-done i (omega arith)) (omega (arith, length_done i)) (omega (arith, length_done i))
 
-    pub putting_own : (w : ℕ) → T (is_filled (word_at page₀ i)) → w ≡ number (word_at page i) → OwnSeparators page₀ i w
-    putting_own w l e = own_separators page₀ i w h l (e ∙ ap number putting_word)
-
     -- the number b has the record's next bits, and v is word i with these put in
-    pub putting_turn : (w b v n : ℕ) (next : List ℕ) → OwnSeparators page₀ i w → n ≡ length (read (cells 46 w)) → cells n b ≡ fit n (drop at (bits second))
-        → v ≡ number (put (cells 46 w) (cells (length (read (cells 46 w))) b)) → next ≡ put_word page i (cells 46 v) → Putting next (at + n) (i + 1)
-    putting_turn w b v n next o en eb ev ep =
-        let new = put (word_at page₀ i) (drop at (bits second)) in
-        let ew = put_number (word_at page₀ i) (bits second) w b v at (length_word_at page₀ i h) o.is_word (subst (λ (k : ℕ). cells k b ≡ fit k (drop at (bits second))) en eb) ev in
+    pub putting_turn : (w v : List Bool) (b n : ℕ) (next : List ℕ) → w ≡ word_at page i → OwnSeparators w → n ≡ length (read w)
+        → cells n b ≡ fit n (drop at (bits second)) → v ≡ put w (cells (length (read w)) b) → next ≡ put_word page i v → Putting next (at + n) (i + 1)
+    putting_turn w v b n next ew o en eb ev ep =
+        let x = word_at page₀ i in
+        let new = put x (drop at (bits second)) in
+        let is : w ≡ x = ew ∙ putting_word in
+        let e : v ≡ new = put_next w (bits second) v b n at en eb ev ∙ ap (λ (u : List Bool). put u (drop at (bits second))) is in
         let ld = length_done i in
-        let e46 : length new ≡ 46 = unfold put in length_put false (word_at page₀ i) (drop at (bits second)) ∙ length_word_at page₀ i h in
+        let e46 : length new ≡ 46 = unfold put in length_put false x (drop at (bits second)) ∙ length_word_at page₀ i h in
         record {
           words_done =
-              ep ∙ ap₂ (λ (p : List ℕ) (u : List Bool). put_word p i u) r.words_done ew
+              ep ∙ ap₂ (λ (p : List ℕ) (u : List Bool). put_word p i u) r.words_done e
               ∙ ap (λ (k : ℕ). put_word (put_words page₀ (done i)) k new) (sym ld)
               ∙ put_words_more page₀ (done i) new (Words-done i (omega arith)) e46 (omega (arith, ld))
               ∙ ap (put_words page₀) (sym (done_more i at r.counted.sum));
-          counted = counting_turn page₀ at i n (en ∙ o.count) (omega (arith, en, o.count, o.most)) r.counted;
+          counted = counting_turn page₀ at i n (en ∙ ap (λ (u : List Bool). length (read u)) is) (omega (arith, en, o.most)) r.counted;
         }
+
+  -- word i of n, of which all are filled, is its own separators
+  pub putting_own : (page : List ℕ) (at i : ℕ) → Putting page at i → (n : ℕ) (w : List Bool)
+      → (start n ≤ 8 * length page₀) × (lowest is_filled (page_words page₀ n) ≡ n) × (n < 2 ^ 16) → i < n → w ≡ word_at page i → OwnSeparators w
+  putting_own page at i r n w q h e =
+      let is : w ≡ word_at page₀ i = e ∙ putting_word page at i r (omega arith) in
+      own_separators w (ap length is ∙ length_word_at page₀ i (omega arith))
+      (ap is_filled is ∙ is_true (is_filled (word_at page₀ i)) (all_passed is_filled page₀ n q.1 i h))

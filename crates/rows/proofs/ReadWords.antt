@@ -29,7 +29,7 @@ pub reading_start : (page out₀ : List ℕ) → Reading page out₀ out₀ 0
 unfolding at_start first_record page_words pieces
 reading_start page out₀ = refl
 
-pub reading_turn : (page out₀ out next : List ℕ) (i w v : ℕ) → Reading page out₀ out i → cells 46 w ≡ word_at page i → v ≡ sum (cells 46 w)
+pub reading_turn : (page out₀ out next : List ℕ) (i : ℕ) (w : List Bool) (v : ℕ) → Reading page out₀ out i → w ≡ word_at page i → v ≡ sum w
     → next ≡ paste out (4 * i) (bytes 4 (cells 32 v)) 4 → Reading page out₀ next (i + 1)
 reading_turn page out₀ out next i w v r ew ev en =
     let a = first_record (page_words page i) in

@@ -50,3 +50,15 @@ module _ (test : List Bool → Bool) (page : List ℕ) where
   pub all_passed : (n : ℕ) → lowest test (page_words page n) ≡ n → Passed test page n
   all_passed n e j h =
       subst (λ (w : List Bool). T (test w)) (get_d_page_words page n j h) (passed_before test (page_words page n) j (omega arith))
+
+  -- word i, loaded as w, passes or fails
+  pub loaded_passed : (i : ℕ) (w : List Bool) (t : Bool) → Passed test page i → w ≡ word_at page i → t ≡ test w → t ≡ true → Passed test page (i + 1)
+  loaded_passed i w t p e et k = passed_more i p (ap test (sym e) ∙ sym et ∙ k)
+
+  pub loaded_failed : (n i : ℕ) (w : List Bool) (t : Bool) → i < n → Passed test page i → w ≡ word_at page i → t ≡ test w → t ≡ false
+      → i ≡ lowest test (page_words page n)
+  loaded_failed n i w t h p e et f = sym (scan_failed n i h p (ap test (sym e) ∙ sym et ∙ f))
+
+  -- after the last word
+  pub scan_end : (n i : ℕ) → i ≡ n → Passed test page i → n ≡ lowest test (page_words page n)
+  scan_end n i e p = sym (scan_passed n (subst (Passed test page) e p))

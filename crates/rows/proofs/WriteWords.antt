@@ -7,9 +7,8 @@ use native.Mathlib.Numerals.{add-one}
 use native.Mathlib.Omega.{arith}
 use lib.ListN.{length, take, drop}
 use lib.Seq.{drop-drop}
-use Rattle.cells.specs.Cells.{number, cells}
+use Rattle.cells.specs.Cells.{number}
 use Rattle.cells.specs.Bytes.{bits, Bytes}
-use Rattle.cells.proofs.Numbers.{cells_of}
 use Rattle.window.specs.Words.{start, put_word, put_words}
 use Rattle.window.proofs.Words.{put_words_none, put_words_more}
 use Rattle.word.specs.Word.{zeckendorf}
@@ -37,13 +36,13 @@ pub writing_start : (page₀ bs : List ℕ) → Bytes page₀ → Writing page�
 unfolding first_words
 writing_start page₀ bs b = sym (put_words_none page₀ b)
 
-pub writing_turn : (page₀ bs page next : List ℕ) (i x v : ℕ) → start i + 46 ≤ 8 * length page₀ → Writing page₀ bs page i
-    → x ≡ number (bits (take 4 (drop (4 * i) bs))) → v ≡ number (zeckendorf 46 x) → next ≡ put_word page i (cells 46 v) → Writing page₀ bs next (i + 1)
+pub writing_turn : (page₀ bs page next : List ℕ) (i x : ℕ) (v : List Bool) → start i + 46 ≤ 8 * length page₀ → Writing page₀ bs page i
+    → x ≡ number (bits (take 4 (drop (4 * i) bs))) → v ≡ zeckendorf 46 x → next ≡ put_word page i v → Writing page₀ bs next (i + 1)
 writing_turn page₀ bs page next i x v h r ex ev en =
     let w = zeckendorf 46 (number (bits (take 4 (drop (4 * i) bs)))) in
     let ws = first_words i bs in
     let l : length ws ≡ i = length_first_words i bs in
-    let ew : cells 46 v ≡ w = ap (cells 46) ev ∙ cells_of 46 (zeckendorf 46 x) (length_zeckendorf 46 x) ∙ ap (zeckendorf 46) ex in
+    let ew : v ≡ w = ev ∙ ap (zeckendorf 46) ex in
     en ∙ ap₂ (λ (p : List ℕ) (u : List Bool). put_word p i u) r ew
     ∙ ap (λ (k : ℕ). put_word (put_words page₀ ws) k w) (sym l)
     ∙ put_words_more page₀ ws w (Words-first_words i bs) (length_zeckendorf 46 _) (omega (arith, l))

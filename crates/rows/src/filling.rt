@@ -37,21 +37,13 @@ pub fn count_filled(page: &[u8], n: usize) -> Counted
     ensures words { result.words ≡ lowest is_filled (page_words page.now n) }
     ensures cells { result.cells ≡ length (read_all (page_words page.now result.words)) }
 {
-    let mut at: usize = 0;
-    let mut i: usize = 0;
-    while i < n {
+    let mut cells: usize = 0;
+    for i in 0..n {
         let word = load_word(page, i);
         if !is_filled(word) {
-            return Counted {
-                words: i,
-                cells: at,
-            };
+            return Counted { words: i, cells };
         }
-        at += data_cells(word) as usize;
-        i += 1;
+        cells += data_cells(word) as usize;
     }
-    Counted {
-        words: i,
-        cells: at,
-    }
+    Counted { words: n, cells }
 }

@@ -7,7 +7,7 @@ ghost use Rattle.rows.specs.Page.{lowest, read_all, put_all};
 
 use crate::filling::Counted;
 use cells::bits_at;
-use window::{load_word, put_few, store_word};
+use window::{load_word, put_cells, store_word};
 use word::second::{data_cells, put_bits, read_bits};
 use word::separators::{is_well_formed, separators_of};
 
@@ -18,9 +18,9 @@ pub fn put_record(page: &mut [u8], second: &[u8], n: usize)
 {
     let mut at: usize = 0;
     for i in 0..n {
-        let word = load_word(page, i);
-        let count = data_cells(word) as usize;
-        store_word(page, i, put_bits(word, bits_at(second, at, count)));
+        let filled = load_word(page, i);
+        let count = data_cells(filled) as usize;
+        store_word(page, i, put_bits(filled, bits_at(second, at, count)));
         at += count;
     }
 }
@@ -33,24 +33,16 @@ pub fn gather(page: &[u8], buffer: &mut [u8], n: usize) -> Counted
     ensures cells { result.cells ≡ length (read_all (page_words page.now result.words)) }
     ensures bytes { buffer.new ≡ put_cells buffer.old 0 (read_all (page_words page.now result.words)) }
 {
-    let mut at: usize = 0;
-    let mut i: usize = 0;
-    while i < n {
+    let mut cells: usize = 0;
+    for i in 0..n {
         let word = load_word(page, i);
         if !is_well_formed(word) {
-            return Counted {
-                words: i,
-                cells: at,
-            };
+            return Counted { words: i, cells };
         }
         let separators = separators_of(word);
         let count = data_cells(separators) as usize;
-        put_few(buffer, at, count, read_bits(word, separators));
-        at += count;
-        i += 1;
+        put_cells::<4>(buffer, cells, count, read_bits(word, separators));
+        cells += count;
     }
-    Counted {
-        words: i,
-        cells: at,
-    }
+    Counted { words: n, cells }
 }

@@ -23,6 +23,7 @@ pub fn small_page() -> Shape
 }
 
 // The shape that a page of so many bytes is held to. One of neither size gets the small page's, whose size it does not have.
+#[tactic(auto, unfolding(crate::specs::Page::shape_for))]
 pub fn shape_of(length: usize) -> Shape
     ensures { result ≡ shape_for length }
 {
@@ -42,12 +43,10 @@ fn tail_zero(page: &[u8], n: usize) -> bool
     requires { n < 2 ^ 16 }
     ensures { result ≡ zeros (tail n page.now) }
 {
-    let mut i = 3 + 46 * n / 8;
-    while i < page.len() {
+    for i in 3 + 46 * n / 8..page.len() {
         if page[i] != 0 {
             return false;
         }
-        i += 1;
     }
     true
 }
@@ -71,12 +70,10 @@ pub fn put_header(page: &mut [u8], state: u8, n: usize)
 }
 
 // Refusal 6 of a page of n words with a second record of at most `most` bytes; without one, `most` is 0.
+#[tactic(auto, unfolding(crate::specs::Page::bad_header))]
 pub fn bad_header(page: &[u8], n: usize, most: usize) -> bool
     requires { (3 ≤ length page.now) × (n < 2 ^ 16) }
     ensures { result ≡ bad_header most n page.now }
 {
-    if most < record_length(page) {
-        return true;
-    }
-    !tail_zero(page, n)
+    most < record_length(page) || !tail_zero(page, n)
 }

@@ -14,14 +14,12 @@ pub fn first_illegal(page: &[u8], n: usize) -> usize
     requires { (start n ≤ 8 * length page.now) × (n < 2 ^ 16) }
     ensures { result ≡ lowest legal (page_words page.now n) }
 {
-    let mut i: usize = 0;
-    while i < n {
-        if !is_legal(load_word(page, i)) {
+    for i in 0..n {
+        if !is_legal(load_word(page, i).bits()) {
             return i;
         }
-        i += 1;
     }
-    i
+    n
 }
 
 // The sum of the capacities of a page's n words.

@@ -1,4 +1,4 @@
--- A field of a number exchanged for another by what the two differ, modulo 2 ^ 64.
+-- A field of a number replaced by another, and exchanged for it by what the two differ, modulo 2 ^ 64.
 -- Assumes nothing.
 use mathlib.Core.Path.{◌≡◌, ap, sym, subst, ◌∙◌}
 use Prim.Native.Nat.{ℕ, ◌+◌, ◌-◌, ◌*◌, ◌/◌, ◌%◌, ◌^◌, ◌<◌, ◌≤◌}
@@ -21,11 +21,11 @@ difference old f v p x y hf eo h =
 
 module _ (old s m : ℕ) (ho : old < 2 ^ 64) where
   -- a number is the bits above, the m that are replaced, and the s below
-  parts : old / 2 ^ (m + s) * 2 ^ (m + s) + (old / 2 ^ s % 2 ^ m * 2 ^ s + old % 2 ^ s) ≡ old
+  pub parts : old / 2 ^ (m + s) * 2 ^ (m + s) + (old / 2 ^ s % 2 ^ m * 2 ^ s + old % 2 ^ s) ≡ old
   parts = ap (λ (x : ℕ). old / 2 ^ (m + s) * 2 ^ (m + s) + x) (sym (mod-pow-add old m s)) ∙ split old (m + s)
 
   -- with m others in their place it still has 64 bits
-  whole : (v : ℕ) → v < 2 ^ m → m + s ≤ 64 → old / 2 ^ (m + s) * 2 ^ (m + s) + (v * 2 ^ s + old % 2 ^ s) < 2 ^ 64
+  pub whole : (v : ℕ) → v < 2 ^ m → m + s ≤ 64 → old / 2 ^ (m + s) * 2 ^ (m + s) + (v * 2 ^ s + old % 2 ^ s) < 2 ^ 64
   whole v hv h =
       let e : 64 ≡ 64 - (m + s) + (m + s) = omega arith in
       let l : v * 2 ^ s + old % 2 ^ s < 2 ^ (m + s) =

@@ -43,6 +43,16 @@ pub fill_pulses_half : (w : List Bool) → T (sparse w) → 2 * fill_pulses w �
 unfolding fill sparse first
 fill_pulses_half w t = omega (arith, fill_exact w, sparse_half false (fill w) (fill_apart w t), length_fill false w)
 
+-- f is w filled
+module _ (w f : List Bool) (e : f ≡ fill w) where
+  pub fill_kept : kept w f ≡ true
+  unfolding fill
+  fill_kept = rw e (is_true (kept w (fill w)) (kept_fill false w))
+
+  pub pulses_filled : pulses w f ≡ fill_pulses w
+  unfolding fill_pulses
+  pulses_filled = ap (pulses w) e
+
 -- w is a word, and f that word filled
 module _ (w f : ℕ) (e : f ≡ number (fill (cells 46 w))) where
   filled_cells_lem : cells 46 f ≡ fill (cells 46 w)

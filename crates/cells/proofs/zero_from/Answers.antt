@@ -1,19 +1,12 @@
--- `cells::zero_from` meets its contract: the total so far is 0 exactly where the bytes before byte i are. Assumes nothing.
-use native.Mathlib.Omega.{arith}
-use Rattle.cells.proofs.Zeros.{zero_turn, zero_end}
+-- `cells::zero_from` meets its contract: the bytes are 0 exactly where their sum is. Assumes nothing.
+use Rattle.std.proofs.Common.{◌≡◌, ◌-◌, ℕ, length, take, drop, length-drop, sum, ap, ◌∙◌, arith, nat_eq}
+use Rattle.std.proofs.Math.Seq.{take_all}
+use Rattle.cells.proofs.Zeros.{zeros_sum}
 use Rattle.cells.proofs.zero_from.Goals as goal
-
-pub loop-i-preserved : goal.loop-i-preserved
-loop-i-preserved c =
-    let a = c.args in
-    let l = c.loop-i in (
-      omega arith,
-      omega (arith, c.type_inv.bytes l.i),
-      zero_turn a.bytes.now a.from l.total l.i (omega arith) l.invariant.2,
-    )
 
 pub returns : goal.returns
 returns c =
-    let a = c.args in
-    let l = c.loop-i in
-    zero_end a.bytes.now a.from l.total l.i (omega arith) l.invariant.2
+    let l = drop c.args.from c.args.bytes.now in
+    let n = length c.args.bytes.now - c.args.from in
+    let all : take n l ≡ l = take_all n l (omega (arith, length-drop c.args.from c.args.bytes.now)) in
+    ap (λ (k : ℕ). nat_eq k 0) (c.loop-b.invariant.1 ∙ ap sum (take_all c.loop-b.b-index (take n l) c.loop-b-test.false ∙ all)) ∙ zeros_sum l

@@ -1,8 +1,6 @@
--- `cells::zero_from` meets its contract: the total so far is 0 exactly where the bytes before byte i are. Assumes nothing.
-use Prim.Native.Nat.{◌≤◌, ◌*◌}
-use lib.ListN.{length}
-use Rattle.cells.proofs.Zeros.{Zero}
+-- `cells::zero_from` meets its contract: the total is the sum of the bytes so far. Assumes nothing.
+use Rattle.std.proofs.Common.{◌≡◌, ◌≤◌, ◌*◌, sum, take}
 use Rattle.cells.proofs.zero_from.Given as goal
 
-abbrev pub invariant-loop-i : goal.invariant-loop-i
-invariant-loop-i l = (l.i ≤ length l.bytes) × (l.total ≤ 255 * l.i) × Zero l.bytes l.from l.total l.i
+abbrev pub invariant-loop-b : goal.invariant-loop-b
+invariant-loop-b l = (l.total ≤ 255 * l.b-index) × (l.total ≡ sum (take l.b-index l.b-items))

@@ -5,7 +5,7 @@ use Rattle.walk.proofs.Readings.{Underread}
 use Rattle.walk.proofs.read_off.Given as goal
 
 abbrev pub invariant-loop-n : goal.invariant-loop-n
-invariant-loop-n l = Underread l.word l.wanted l.first l.bits l.n l.k
+invariant-loop-n l = Underread l.held l.wanted l.first l.bits l.n l.k
 
 abbrev pub decreases-loop-n : goal.decreases-loop-n
 decreases-loop-n l = l.n

@@ -5,7 +5,7 @@ use Rattle.walk.proofs.Laying.{Held}
 use Rattle.walk.proofs.walk_word.Given as goal
 
 abbrev pub invariant-loop-next : goal.invariant-loop-next
-invariant-loop-next l = Held l.word l.bits l.count l.cells l.next l.separators l.marks
+invariant-loop-next l = Held l.initial.cells l.bits l.count l.cells l.next l.separators l.marks
 
 abbrev pub decreases-loop-next : goal.decreases-loop-next
 decreases-loop-next l = l.next

@@ -1,9 +1,11 @@
 -- `window::exchange_word` meets its contract: the window is put back with the word's cells replaced.
 -- Assumes nothing.
-use mathlib.Core.Path.{sym, ◌∙◌}
+use mathlib.Core.Path.{sym, ap, ◌∙◌}
 use native.Mathlib.Omega.{arith}
+use Rattle.std.proofs.Common.{rules}
+use Rattle.cells.specs.Cells.{number}
 use Rattle.cells.specs.Bytes.{Bytes}
-use Rattle.window.specs.Words.{start, word_at, put_word}
+use Rattle.window.specs.Words.{start, word_at, put_cells, put_word}
 use Rattle.window.proofs.Windows.{read_window, write_window}
 use Rattle.window.proofs.exchange_word.Goals as goal
 
@@ -13,7 +15,7 @@ exchanged-requires c =
     let a = c.args in
     let k = c.window_start-k.ensures in
     let s = c.cells_after.ensures in
-    (omega arith, omega arith, c.requires.2 ∙ sym (read_window _ (start a.i) 46 c.window_start-k.result 8 c.cells_after.result (omega arith) (omega arith) (omega arith) _ c.window-old.ensures))
+    (omega arith, omega arith, c.bits.ensures.number ∙ ap number c.requires.2 ∙ sym (read_window _ (start a.i) 46 c.window_start-k.result 8 c.cells_after.result (omega arith) (omega arith) (omega arith) _ c.window-old.ensures))
 
 pub returns : goal.returns
 unfolding put_word
@@ -21,7 +23,8 @@ returns c =
     let a = c.args in
     let k = c.window_start-k.ensures in
     let s = c.cells_after.ensures in
-    let b : Bytes a.page.now = λ j. omega (arith, c.slice_known-1.given j) in
+    let b : Bytes a.page.now = λ j. search rules in
     c.put_bytes.ensures
     ∙ write_window _ (start a.i) 46 c.window_start-k.result 8 c.cells_after.result
     (omega arith) (omega arith) (omega arith) _ _ _ b (omega arith) c.window-old.ensures c.exchanged.ensures
+    ∙ ap (put_cells a.page.now (start a.i)) c.bits-2.ensures.cells

@@ -1,44 +1,24 @@
--- `word::capacity` meets its contract: decode's refusals are its own, and the data cells of a word that decode takes are counted after
--- the fill.
+-- `word::capacity` meets its contract: decode's refusals are its own, and the data cells of a word that decode takes are counted after the
+-- fill.
 -- Assumes nothing.
-use mathlib.Core.Path.{refl, sym, ◌∙◌, ap}
-use native.Mathlib.Omega.{arith}
+use mathlib.Core.Path.{sym, ap, ◌∙◌}
+use Rattle.answer.proofs.Passing.{refused_as}
 use Rattle.answer.specs.Answer.{result}
-use Rattle.answer.proofs.Chains.{same_refusal}
-use Rattle.word.specs.Answer.{decoded_code, legal_checks}
-use Rattle.word.specs.Weights.{weights}
-use Rattle.word.proofs.Answers.{Taken, taken, word_taken}
-use Rattle.word.proofs.Measures.{filled_small, filled_apart, filled_capacity}
+use Rattle.word.specs.Fill.{fill}
+use Rattle.word.proofs.Answers.{taken, given, word_taken, refused_again}
+use Rattle.word.proofs.Measures.{filled_apart, filled_capacity}
 use Rattle.word.proofs.capacity.Goals as goal
 
-pub decode_with-d-requires : goal.decode_with-d-requires
-unfolding weights
-decode_with-d-requires c =
-    refl
-
-pub fill_word-requires : goal.fill_word-requires
-fill_word-requires c =
-    let legal : Taken c.args.word = taken _ _ _ (sym (sym (ap decoded_code c.in-Value.is) ∙ c.decode_with-d.ensures)) in
-    omega (arith, (legal).small)
+pub returns-in_err-legal : goal.returns-in_err-legal
+returns-in_err-legal c =
+    rw (refused_as _ _ c.from_residual.ensures.1) (refused_again _ _ _ _ _ c.in_err-legal.ensures)
 
 pub data_cells-requires : goal.data_cells-requires
 data_cells-requires c =
-    let legal : Taken c.args.word = taken _ _ _ (sym (sym (ap decoded_code c.in-Value.is) ∙ c.decode_with-d.ensures)) in
-    (filled_small _ _ c.fill_word.ensures, filled_apart _ _ (legal) c.fill_word.ensures)
+    let filled = c.fill_word-filled.ensures ∙ ap fill (given _ _ _ (sym c.in_ok-legal.ensures)) in
+    filled_apart _ _ filled (taken _ _ _ (sym c.in_ok-legal.ensures))
 
-pub returns-in-Value : goal.returns-in-Value
-returns-in-Value c =
-    let legal : Taken c.args.word = taken _ _ _ (sym (sym (ap decoded_code c.in-Value.is) ∙ c.decode_with-d.ensures)) in
-    ap result (c.data_cells.ensures ∙ filled_capacity _ _ c.fill_word.ensures) ∙ sym (word_taken _ _ (legal))
-
-pub returns-in-HighBit : goal.returns-in-HighBit
-returns-in-HighBit c =
-    sym (same_refusal (legal_checks _) _ _ _ _ (sym (sym (ap decoded_code c.in-HighBit.is) ∙ c.decode_with-d.ensures)))
-
-pub returns-in-Neighbours : goal.returns-in-Neighbours
-returns-in-Neighbours c =
-    sym (same_refusal (legal_checks _) _ _ _ _ (sym (sym (ap decoded_code c.in-Neighbours.is) ∙ c.decode_with-d.ensures)))
-
-pub returns-in-SumTooLarge : goal.returns-in-SumTooLarge
-returns-in-SumTooLarge c =
-    sym (same_refusal (legal_checks _) _ _ _ _ (sym (sym (ap decoded_code c.in-SumTooLarge.is) ∙ c.decode_with-d.ensures)))
+pub returns : goal.returns
+returns c =
+    let filled = c.fill_word-filled.ensures ∙ ap fill (given _ _ _ (sym c.in_ok-legal.ensures)) in
+    ap result (c.data_cells.ensures ∙ filled_capacity _ _ filled) ∙ sym (word_taken _ _ (taken _ _ _ (sym c.in_ok-legal.ensures)))

@@ -1,11 +1,7 @@
 -- `rows::words::first_illegal` meets its contract: the words before word i are legal. Assumes nothing.
-use Prim.Native.Nat.{◌≤◌, ◌-◌}
 use Rattle.word.specs.Word.{legal}
 use Rattle.rows.proofs.Scanning.{Passed}
 use Rattle.rows.proofs.words.first_illegal.Given as goal
 
 abbrev pub invariant-loop-i : goal.invariant-loop-i
-invariant-loop-i l = (l.i ≤ l.n) × Passed legal l.page l.i
-
-abbrev pub decreases-loop-i : goal.decreases-loop-i
-decreases-loop-i l = l.n - l.i
+invariant-loop-i l = Passed legal l.page l.i

@@ -8,7 +8,7 @@ use Rattle.word.proofs.Putting.{Laid}
 use Rattle.word.proofs.second.put_bits.Given as goal
 
 abbrev pub invariant-loop-mask : goal.invariant-loop-mask
-invariant-loop-mask l = Laid (number (put (cells 46 l.filled) (cells (length (read (cells 46 l.filled))) l.bits))) l.word l.mask l.rest
+invariant-loop-mask l = Laid (number (put l.fn.filled (cells (length (read l.fn.filled)) l.bits))) l.word l.mask l.rest
 
 abbrev pub decreases-loop-mask : goal.decreases-loop-mask
 decreases-loop-mask l = l.mask

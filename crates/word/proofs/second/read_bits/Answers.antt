@@ -2,24 +2,23 @@
 -- mask still has, make up the whole.
 -- Assumes nothing.
 use native.Mathlib.Omega.{arith}
-use lib.Count.{count_leading_zeros}
-use Rattle.word.proofs.SetCells.{Top, top_cell}
+use Rattle.word.proofs.Clearing.{clear_number}
+use Rattle.word.proofs.SetCells.{top_cell}
 use Rattle.word.proofs.Reading.{picked_start, picked_turn, picked_end}
 use Rattle.word.proofs.second.read_bits.Goals as goal
 
 pub loop-mask-init : goal.loop-mask-init
 loop-mask-init c =
-    picked_start _ _ c.requires.0 c.requires.1
+    let e = c.bits-held.ensures.cells in
+    rw e at (picked_start c.bits-held.result c.bits-mask.result c.bits-held.ensures.few (clear_number _ _ _ _ e c.bits-mask.ensures.number c.requires))
 
 pub overflow_sub-mask : goal.overflow_sub-mask
 overflow_sub-mask c =
-    let top : Top c.loop-mask.mask (count_leading_zeros 64 c.loop-mask.mask) = top_cell c.loop-mask.mask (omega arith) c.loop-mask.invariant.small in
-    let t = top in omega (arith, t.shifted, t.least)
+    let t = top_cell _ (omega arith) c.loop-mask.invariant.small in omega (arith, t.shifted, t.least)
 
 pub loop-mask-preserved : goal.loop-mask-preserved
 loop-mask-preserved c =
-    let top : Top c.loop-mask.mask (count_leading_zeros 64 c.loop-mask.mask) = top_cell c.loop-mask.mask (omega arith) c.loop-mask.invariant.small in
-    picked_turn _ _ _ _ _ (top) c.loop-mask.invariant
+    picked_turn _ _ _ _ _ (top_cell _ (omega arith) c.loop-mask.invariant.small) c.loop-mask.invariant
 
 pub returns : goal.returns
 returns c =

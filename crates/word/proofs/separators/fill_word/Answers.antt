@@ -1,12 +1,17 @@
 -- `word::separators::fill_word` meets its contract: the fill adds every second cell of each run of free cells.
 -- Assumes nothing.
-use Rattle.word.proofs.FreeCells.{free_lt, fill_clear}
+use mathlib.Core.Path.{ap, ◌∙◌}
+use Rattle.cells.specs.Cells.{number}
+use Rattle.word.specs.Fill.{clear}
+use Rattle.word.proofs.FreeCells.{fill_held}
 use Rattle.word.proofs.separators.fill_word.Goals as goal
 
-pub separators_of-requires : goal.separators_of-requires
-separators_of-requires c =
-    rw c.free_cells.ensures (free_lt _)
+pub new-requires : goal.new-requires
+new-requires c =
+    let s = c.bits-2.ensures.number ∙ ap number (c.separators_of.ensures ∙ ap clear c.free_cells.ensures) in
+    (fill_held _ _ _ c.bits.ensures.cells c.bits.ensures.few s).0
 
 pub returns : goal.returns
 returns c =
-    rw (c.separators_of.ensures, c.free_cells.ensures) (fill_clear _ c.requires)
+    let s = c.bits-2.ensures.number ∙ ap number (c.separators_of.ensures ∙ ap clear c.free_cells.ensures) in
+    c.new.ensures ∙ (fill_held _ _ _ c.bits.ensures.cells c.bits.ensures.few s).1

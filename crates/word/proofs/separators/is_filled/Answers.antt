@@ -5,10 +5,10 @@ use borrow.Author.Tests.{not-true, not-false}
 use Rattle.word.proofs.Formed.{filled_full, not_filled}
 use Rattle.word.proofs.separators.is_filled.Goals as goal
 
-pub returns-then-has_neighbours : goal.returns-then-has_neighbours
-returns-then-has_neighbours c =
-    sym (not_filled _ (not-true _ (sym c.has_neighbours.ensures ∙ c.if-has_neighbours.true)))
+pub returns-then-not-has_neighbours : goal.returns-then-not-has_neighbours
+returns-then-not-has_neighbours c =
+    c.is_full.ensures ∙ sym (filled_full _ (not-false _ (sym c.has_neighbours.ensures ∙ c.if-not-has_neighbours.true)))
 
-pub returns : goal.returns
-returns c =
-    c.is_full.ensures ∙ sym (filled_full _ (not-false _ (sym c.has_neighbours.ensures ∙ c.if-has_neighbours.false)))
+pub returns-else-not-has_neighbours : goal.returns-else-not-has_neighbours
+returns-else-not-has_neighbours c =
+    rw c.if-not-has_neighbours.false (sym (not_filled _ (not-true _ (sym c.has_neighbours.ensures ∙ c.if-not-has_neighbours.false))))

@@ -6,7 +6,7 @@ use Rattle.word.proofs.Clearing.{Stays}
 use Rattle.word.proofs.separators.separators_of.Given as goal
 
 abbrev pub invariant-loop-d : goal.invariant-loop-d
-invariant-loop-d l = Stays l.word l.set l.pass l.d
+invariant-loop-d l = Stays l.bits l.set l.pass l.d
 
 abbrev pub decreases-loop-d : goal.decreases-loop-d
 decreases-loop-d l = 64 - l.d
