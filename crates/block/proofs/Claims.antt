@@ -11,6 +11,7 @@ use native.Mathlib.Omega.{arith}
 use lib.Dec.{T}
 use lib.ListN.{length, take, drop, replicate, length-append}
 use lib.Seq.{drop-drop, drop_at}
+use Rattle.std.specs.Prelude.{None}
 use Rattle.cells.specs.Bytes.{Bytes, zeros, at_start}
 use Rattle.cells.proofs.Bytes.{Bytes-take, Bytes-drop}
 use Rattle.answer.specs.Answer.{Answer, result, refusal, answer, numbers, among}
@@ -24,13 +25,9 @@ use Rattle.rows.proofs.Shapes.{sound256, own_shape}
 use Rattle.page.specs.Answer.{first_checks, write_first_checks, write_first_answer, read_first_checks, read_first_answer}
 use Rattle.page.proofs.FirstAnswers.{write_first, check_taken, read_first}
 use Rattle.filled.specs.Answer.{room_first, page_capacity_answer}
-use Rattle.block.specs.Block.{page_at, put_page, marked, offer_of, offer_at, chosen, choice_of, index_of, kept_pages, kept_count}
+use Rattle.block.specs.Block.{page_at, put_page, marked, Offer, Room, Choice, Page, offer_of, offer_at, chosen, choice_of, index_of, kept_pages, kept_count}
 use Rattle.block.specs.Answer.{place_checks, place_answer, both_steps, place_leaves, collect_checks, collect_answer, collect_leaves}
 use Rattle.block.specs.Claims.{IsBlock, NoneFits, ChoosesBest, OffersRight, BestPage, PlacesRight, CollectsRight}
-use Rattle.block.specs.declared.Offer.{Offer}
-use Rattle.block.specs.declared.Offer.TheVariants.{Room, Passed}
-use Rattle.block.specs.declared.Choice.{Choice}
-use Rattle.block.specs.declared.Choice.TheVariants.{Page}
 use Rattle.block.proofs.Choosing.{Right, right, chosen_best, none_chosen, best_chosen, measured_first}
 use Rattle.block.proofs.Pages.{length_page_at, own_page, other_page, length_put_page, length_both}
 use Rattle.block.proofs.Placing.{other_length, unchosen}
@@ -55,7 +52,7 @@ module _ (block : List ℕ) (marks i room : ℕ) (b : Bytes block) where
   abbrev Offered : Bool → Type 0
   Offered m = T m × FirstRoundOf page256 P × (room ≡ room_first page256 P)
 
-  offered_by : (m : Bool) → (a : Answer) → answer (first_checks page256 P) (room_first page256 P) ≡ a → (cond m (offer_of a) Passed ≡ Room room) ↔ Offered m
+  offered_by : (m : Bool) → (a : Answer) → answer (first_checks page256 P) (room_first page256 P) ≡ a → (cond m (offer_of a) None ≡ Room room) ↔ Offered m
   offered_by false a ea = (λ e. let z : ◌≡◌ {A = ℕ} 0 1 = cc in absurd (omega arith), λ h. absurd h.0)
   offered_by true (refusal n k) ea = (
     λ e. let z : ◌≡◌ {A = ℕ} 0 1 = cc in absurd (omega arith),

@@ -5,12 +5,14 @@ use mathlib.Core.List.{List, [], ◌++◌, append-nil, append_assoc}
 use mathlib.Core.Logic.{◌⊎◌, ⊎_elim}
 use mathlib.Core.Path.{◌≡◌, refl, sym, ap, ◌∙◌, subst}
 use Prim.Native.Nat.{ℕ, zero, suc, ◌+◌, ◌-◌, ◌*◌, ◌/◌, ◌^◌, ◌≤◌, ◌<◌}
-use native.Mathlib.Nat.{add-zero, add-suc}
+use native.Mathlib.Nat.{add-zero, add-suc, div-eq_of_lt}
 use native.Mathlib.Numerals.{add-one}
 use native.Mathlib.Omega.{arith}
 use lib.Dec.{T}
 use lib.ListN.{length, take, length-append}
 use lib.Seq.{sets, take_at, drop_at}
+use Rattle.std.specs.Int.Count.{count_leading_zeros}
+use Rattle.std.proofs.lemmas.Nat.{leading_length}
 use Rattle.cells.specs.Cells.{bit}
 use Rattle.cells.specs.Bytes.{zeros}
 use Rattle.cells.proofs.Bits.{bit_shr, bit_zero}
@@ -69,15 +71,11 @@ module _ (keep : ℕ) where
       go r false e l = later (r (omega arith))
       go r true e l = ⊎_elim (λ q. (n, omega arith, holds (marked keep n) e, sym q)) (λ q. later (r q)) (lt_cases (rw (add-one (kept_count keep n)) at l))
 
-  -- of 16 bits, none is left after the last
-  pub mark_left : keep < 2 ^ 16 → (i : ℕ) → i ≤ 16 → ¬ (keep / 2 ^ i ≡ 0) → i < 16
-  mark_left h i l n = ⊎_elim (λ e. absurd (n (ap (λ (j : ℕ). keep / 2 ^ j) e ∙ last))) (λ q. q) (lt_cases (le_lt l))
-    where
-      last : keep / 2 ^ 16 ≡ 0
-      last = omega arith
-
-      le_lt : i ≤ 16 → i < suc 16
-      le_lt q = omega arith
+  -- of 16 bits, none is left behind the last
+  pub none_left : keep < 2 ^ 16 → keep / 2 ^ (16 - count_leading_zeros 16 keep) ≡ 0
+  none_left h =
+      let t = leading_length 16 keep h in
+      let e : 16 - count_leading_zeros 16 keep ≡ t.0 = omega (arith, t.1) in rw e (div-eq_of_lt t.2)
 
 module _ (keep : ℕ) (source : List ℕ) where
   abbrev piece : ℕ → List ℕ
@@ -120,36 +118,36 @@ module _ (keep : ℕ) (source : List ℕ) where
 
   -- ---- one page more
 
-  pub kept_none : (target : List ℕ) (n i : ℕ) (r : Bool) → r ≡ marked keep i → not r ≡ true
-      → (n ≡ n + cond (marked keep i) 1 0) × (target ≡ sets target (256 * n) (piece i))
-  kept_none target n i true e h = absurd (subst T (sym h) tt)
-  kept_none target n i false e h = rw (sym e) (sym (add-zero n), refl)
-
-  pub kept_one : (target next : List ℕ) (n i : ℕ) (r : Bool) → r ≡ marked keep i → not r ≡ false → next ≡ sets target (256 * n) (page_at source i)
-      → (n + 1 ≡ n + cond (marked keep i) 1 0) × (next ≡ sets target (256 * n) (piece i))
-  kept_one target next n i true e h en = rw (sym e) (refl, en)
-  kept_one target next n i false e h en = absurd (subst T h tt)
-
   -- after i pages
   pub record Keeps (target₀ target : List ℕ) (n i : ℕ) : Type 0 where
     pub count : n ≡ kept_count keep i
     pub put : target ≡ sets target₀ 0 (kept_pages source keep i)
-    pub same : length target ≡ length target₀
+    pub few : n ≤ i
 
   pub keeps_first : (target : List ℕ) → Keeps target target 0 0
   unfolding kept_count kept_pages
-  keeps_first target = record { count = refl; put = refl; same = refl }
+  keeps_first target = record { count = refl; put = refl; few = omega arith }
 
-  pub keeps_more : (target₀ target next : List ℕ) (n m i : ℕ) → IsBlock source → i < 16 → Keeps target₀ target n i → m ≡ n + cond (marked keep i) 1 0
-      → next ≡ sets target (256 * n) (piece i) → length next ≡ length target → Keeps target₀ next m (i + 1)
+  pub keeps_page : (target₀ target next : List ℕ) (n i : ℕ) → IsBlock source → i < 16 → true ≡ marked keep i → Keeps target₀ target n i
+      → next ≡ sets target (256 * n) (page_at source i) → Keeps target₀ next (n + 1) (i + 1)
   unfolding kept_count kept_pages
-  keeps_more target₀ target next n m i hs hi k em en el = rw (add-one i) (record {
-    count = em ∙ ap (λ (j : ℕ). j + cond (marked keep i) 1 0) k.count;
-    put =
-        en
-        ∙ ap (λ (t : List ℕ). sets t (256 * n) (piece i)) k.put
-        ∙ sets_then target₀ 0 (kept_pages source keep i) (piece i) (256 * n) (omega (arith, length_kept i (omega arith), k.count));
-    same = el ∙ k.same;
+  keeps_page target₀ target next n i hs hi e k en =
+      let page = page_at source i in
+      let before : 256 * n ≡ 0 + length (kept_pages source keep i) = omega (arith, length_kept i (omega arith), k.count) in
+      rw (add-one i) (record {
+        count = rw (sym e) (ap (λ (j : ℕ). j + 1) k.count);
+        put =
+            rw (sym e)
+            (en ∙ ap (λ (t : List ℕ). sets t (256 * n) page) k.put ∙ sets_then target₀ 0 (kept_pages source keep i) page (256 * n) before);
+        few = omega (arith, k.few);
+      })
+
+  pub keeps_none : (target₀ target : List ℕ) (n i : ℕ) → false ≡ marked keep i → Keeps target₀ target n i → Keeps target₀ target n (i + 1)
+  unfolding kept_count kept_pages
+  keeps_none target₀ target n i e k = rw (add-one i) (record {
+    count = rw (sym e) (k.count ∙ sym (add-zero (kept_count keep i)));
+    put = rw (sym e) (k.put ∙ ap (sets target₀ 0) (sym (append-nil (kept_pages source keep i))));
+    few = omega (arith, k.few);
   })
 
   -- where no mark is left after the first i pages, all are done
@@ -157,19 +155,12 @@ module _ (keep : ℕ) (source : List ℕ) where
   unfolding kept_count kept_pages
   keeps_all target₀ target n i h e k = subst (Keeps target₀ target n) (omega arith) (go (16 - i))
     where
-      none : (d : ℕ) → marked keep (i + d) ≡ false
-      none d = sym (bit_shr keep i d) ∙ ap (λ (x : ℕ). bit x d) e ∙ bit_zero d
-
-      next : (d : ℕ) → Keeps target₀ target n (i + d) → Keeps target₀ target n (suc (i + d))
-      next d r = record {
-        count = r.count ∙ rw (none d) (sym (add-zero (kept_count keep (i + d))));
-        put = r.put ∙ rw (none d) (ap (sets target₀ 0) (sym (append-nil (kept_pages source keep (i + d)))));
-        same = r.same;
-      }
+      none : (d : ℕ) → false ≡ marked keep (i + d)
+      none d = sym (sym (bit_shr keep i d) ∙ ap (λ (x : ℕ). bit x d) e ∙ bit_zero d)
 
       go : (d : ℕ) → Keeps target₀ target n (i + d)
       go zero = subst (Keeps target₀ target n) (sym (add-zero i)) k
-      go (suc d) = subst (Keeps target₀ target n) (sym (add-suc i d)) (next d (go d))
+      go (suc d) = subst (Keeps target₀ target n) (add-one (i + d) ∙ sym (add-suc i d)) (keeps_none target₀ target n (i + d) (none d) (go d))
 
   -- ---- the whole block
 
@@ -184,24 +175,16 @@ module _ (keep : ℕ) (source : List ℕ) where
     unfolding collect_checks
     not_blocks h = both_refused _ target _ 17 0 (first_refused other_lengths 17 0 _ (kept_count keep 16) h)
 
-    module _ (hs : IsBlock source) (ht : IsBlock target) (r : Bool) (e : r ≡ zeros target) where
-      pub not_blank : not r ≡ true → Left (refusal 19 0) target
+    module _ (hs : IsBlock source) (ht : IsBlock target) where
+      pub not_blank : false ≡ zeros target → Left (refusal 19 0) target
       unfolding collect_checks
-      not_blank h =
+      not_blank e =
           both_refused _ target _ 19 0
-          (passed other_lengths 17 0 _ (kept_count keep 16) (hs, ht) ∙ first_refused (opposite (zeros target)) 19 0 [] (kept_count keep 16) (no r e h))
-        where
-          no : (b : Bool) → b ≡ zeros target → not b ≡ true → zeros target ≡ false
-          no true e h = absurd (subst T (sym h) tt)
-          no false e h = sym e
+          (passed other_lengths 17 0 _ (kept_count keep 16) (hs, ht) ∙ first_refused (opposite (zeros target)) 19 0 [] (kept_count keep 16) (sym e))
 
-      pub collected : not r ≡ false → (n : ℕ) (t : List ℕ) → n ≡ kept_count keep 16 → t ≡ sets target 0 (kept_pages source keep 16) → Left (result n) t
+      pub collected : true ≡ zeros target → (n : ℕ) (t : List ℕ) → n ≡ kept_count keep 16 → t ≡ sets target 0 (kept_pages source keep 16) → Left (result n) t
       unfolding collect_checks
-      collected h n t en et =
+      collected e n t en et =
           both_done _ target _ n t
-          (passed other_lengths 17 0 _ (kept_count keep 16) (hs, ht) ∙ passed (opposite (zeros target)) 19 0 [] (kept_count keep 16) (yes r e h) ∙ (nothing_left (kept_count keep 16) n).1 en)
+          (passed other_lengths 17 0 _ (kept_count keep 16) (hs, ht) ∙ passed (opposite (zeros target)) 19 0 [] (kept_count keep 16) (subst T e tt) ∙ (nothing_left (kept_count keep 16) n).1 en)
           (et ∙ sets_at_start target (kept_pages source keep 16) (omega (arith, length_kept 16 (omega arith), count_few keep 16)))
-        where
-          yes : (b : Bool) → b ≡ zeros target → not b ≡ false → T (zeros target)
-          yes true e h = subst T e tt
-          yes false e h = absurd (subst T h tt)

@@ -1,16 +1,11 @@
--- What placing a record in a block and collecting a block answer, and what they leave in their buffers (document 02, Change 11), and the
--- paper's number and values for each case of their enums.
+-- What placing a record in a block and collecting a block answer, and what they leave in their buffers (document 02, Change 11).
 -- Assumes nothing.
 use Rattle.std.specs.Prelude.{not, ◌||◌, List, [], ◌∷◌, ℕ}
 use Rattle.cells.specs.Bytes.{zeros, at_start}
-use Rattle.answer.specs.Answer.{Answer, result, refusal, Check, refuse, answer, after}
+use Rattle.answer.specs.Answer.{Answer, Check, refuse, answer, after}
 use Rattle.filled.specs.Answer.{fill_page_leaves}
 use Rattle.second.specs.Answer.{write_second_leaves}
 use Rattle.block.specs.Block.{block_pages, is_block, page_at, put_page, choice_of, is_chosen, index_of, kept_pages, kept_count}
-use Rattle.block.specs.declared.Placed.{Placed}
-use Rattle.block.specs.declared.Placed.TheVariants as placed
-use Rattle.block.specs.declared.Collected.{Collected}
-use Rattle.block.specs.declared.Collected.TheVariants as collected
 
 -- ---- placing
 
@@ -46,15 +41,3 @@ collect_answer source keep target = answer (collect_checks block_pages source ta
 -- "Collecting copies the pages marked as kept, in their order, to the front of a blank second block; the remainder stays 0"
 abbrev pub collect_leaves : List ℕ → ℕ → List ℕ → List ℕ
 collect_leaves source keep target = after (collect_answer source keep target) target (at_start (kept_pages source keep block_pages) target)
-
--- ---- the paper's number and values for each case of an enum
-
-abbrev pub placed_code : Placed → Answer
-placed_code (placed.Index i) = result i
-placed_code placed.BlockLength = refusal 17 0
-placed_code placed.NoPage = refusal 18 0
-
-abbrev pub collected_code : Collected → Answer
-collected_code (collected.Kept n) = result n
-collected_code collected.BlockLength = refusal 17 0
-collected_code collected.NotBlank = refusal 19 0

@@ -7,11 +7,8 @@ use Rattle.answer.specs.Answer.{result, refusal, RefusesBy}
 use Rattle.rows.specs.Page.{page256, blank_of, FirstRoundOf}
 use Rattle.page.specs.Answer.{write_first_answer, read_first_answer}
 use Rattle.filled.specs.Answer.{room_first, page_capacity_answer}
-use Rattle.block.specs.Block.{page_at, marked, offer_at, chosen, kept_count}
+use Rattle.block.specs.Block.{page_at, marked, Offer, Room, Page, Nothing, offer_at, chosen, kept_count}
 use Rattle.block.specs.Answer.{place_answer, both_steps, place_leaves, collect_answer, collect_leaves}
-use Rattle.block.specs.declared.Offer.{Offer}
-use Rattle.block.specs.declared.Offer.TheVariants.{Room}
-use Rattle.block.specs.declared.Choice.TheVariants.{Page, Nothing}
 
 -- the bytes of 16 pages
 abbrev pub IsBlock : List ℕ → Type 0

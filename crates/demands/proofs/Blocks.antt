@@ -8,6 +8,7 @@ use Prim.Native.Nat.{ℕ, zero, suc, ◌+◌, ◌*◌, ◌≤◌, ◌<◌}
 use native.Mathlib.Omega.{arith}
 use lib.ListN.{length, take, drop, take-append-drop}
 use lib.Seq.{drop-drop}
+use Rattle.std.specs.Prelude.{Some, None}
 use Rattle.cells.specs.Bytes.{Bytes}
 use Rattle.answer.specs.Answer.{Answer, result, refusal}
 use Rattle.rows.specs.Page.{page256, FirstRoundOf}
@@ -15,11 +16,9 @@ use Rattle.rows.specs.Code.{fill_code, room_ahead, outcome_of}
 use Rattle.rows.proofs.Shapes.{sound256}
 use Rattle.filled.specs.Answer.{room_first, pulses_of, fill_page_answer, fill_page_leaves}
 use Rattle.second.specs.Answer.{write_second_answer, read_second_answer, read_second_leaves}
-use Rattle.block.specs.Block.{page_at, put_page, offer_at, choice_of}
+use Rattle.block.specs.Block.{page_at, put_page, Choice, offer_at, choice_of}
 use Rattle.block.specs.Answer.{place_answer, place_leaves, both_steps}
 use Rattle.block.specs.Claims.{IsBlock, Fitting, Best}
-use Rattle.block.specs.declared.Choice.{Choice}
-use Rattle.block.specs.declared.Choice.TheVariants.{Page, Nothing}
 use Rattle.block.proofs.Claims.{offers_right, chooses_best, places_right, put_leaves}
 use Rattle.demands.specs.Outcome.{Keeps}
 use Rattle.demands.specs.Blocks.{MayTake, capacity_at, PlacedRecords}
@@ -69,8 +68,8 @@ module _ (B R : List ℕ) (marks : ℕ) (b : Bytes B) (r : Bytes R) where
   sure j h m = go _ refl
     where
       go : (c : Choice) → choice_of 16 B marks R ≡ c → (i : ℕ) × (place_answer B marks R ≡ result i)
-      go Nothing e = absurd ((chooses_best.none _ _ _).0 e j (capacity_at B j) (taken_fits j m))
-      go (Page i room) e = (i, (places_right.accepted B R marks i).1 (h, (room, (chooses_best.best _ _ _ i room).0 e)))
+      go None e = absurd ((chooses_best.none _ _ _).0 e j (capacity_at B j) (taken_fits j m))
+      go (Some c) e = (c.index, (places_right.accepted B R marks c.index).1 (h, (c.room, (chooses_best.best _ _ _ c.index c.room).0 e)))
 
   -- ---- an accepted call
 

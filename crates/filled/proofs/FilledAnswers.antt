@@ -3,22 +3,25 @@
 use mathlib.Core.Bool.{Bool, true, false, not, and-true}
 use mathlib.Core.List.{List, []}
 use mathlib.Core.Logic.{◌↔◌, ◌⊎◌, inl, inr, ⊎_elim}
-use mathlib.Core.Path.{◌≡◌, refl, sym, ◌∙◌}
-use Prim.Native.Nat.{ℕ}
+use mathlib.Core.Path.{◌≡◌, refl, sym, ap, ◌∙◌}
+use Prim.Native.Nat.{ℕ, ◌≤◌}
 use native.Mathlib.Omega.{arith}
 use borrow.Author.Tests.{eqb-true, eqb-false, ne_eqb}
 use lib.Dec.{eqb}
+use lib.ListN.{length, get_or}
+use mir.Syntax.{w8}
+use mir.Val.{Fits}
 use Rattle.cells.specs.Bytes.{Bytes}
-use Rattle.answer.specs.Answer.{result, refusal, answer, numbers, among}
+use Rattle.answer.specs.Answer.{Answer, result, refusal, answer, numbers, among}
 use Rattle.answer.proofs.Tells.{nothing_left}
 use Rattle.window.specs.Words.{page_words}
 use Rattle.word.specs.Word.{legal}
 use Rattle.word.specs.Fill.{is_filled}
 use Rattle.rows.specs.declared.shape.Shape.{Shape}
-use Rattle.rows.specs.Page.{state, state_first, state_filled, byte1, FirstRoundOf, FilledOf}
+use Rattle.rows.specs.Page.{state, state_first, state_filled, byte1, lowest, read_all, FirstRoundOf, FilledOf}
 use Rattle.page.specs.Terms.{SizedOf, HeaderOf, RestSetOf, LowestBad, RefusalsOf}
-use Rattle.page.specs.Answer.{first_checks}
-use Rattle.page.proofs.Headed.{state_refusals, state_taken}
+use Rattle.page.specs.Answer.{header_checks, first_checks}
+use Rattle.page.proofs.Headed.{header_passed, opened, no_bad_word, all_words, state_refusals, state_taken}
 use Rattle.page.proofs.FirstAnswers.{check_refusals, check_taken}
 use Rattle.filled.specs.Answer.{filled_checks, capacity_checks, room_first, room_filled, room_of}
 
@@ -32,6 +35,15 @@ module _ (s : Shape) (P : List ℕ) where
   pub check_filled_taken : (x v : ℕ) → Bytes P → (answer (filled_checks s P) x ≡ result v) ↔ (FilledOf s P × (v ≡ x))
   unfolding filled_checks
   check_filled_taken x v b = state_taken state_filled is_filled s P [] x v b (nothing_left x v)
+
+  -- a page whose header passed: its words up to the first that is not filled, k of them, are all, and m data cells were counted in these
+  pub counted : ((i : ℕ) → Fits w8 (get_or P i 0)) → (k m : ℕ) → ◌≡◌ {A = Answer} (result 0) (answer (header_checks state_filled 0 s P) 0)
+      → k ≡ lowest is_filled (page_words P s.words) → m ≡ length (read_all (page_words P k)) → s.words ≤ k → FilledOf s P × (m ≡ room_filled s P)
+  counted b k m h e f l =
+      let w = no_bad_word s.words is_filled P k e l in (
+        opened state_filled s P is_filled (λ i. omega (arith, b i)) (header_passed state_filled s P h) w,
+        f ∙ ap (λ (j : ℕ). length (read_all (page_words P j))) (e ∙ all_words s.words is_filled P w),
+      )
 
   -- ---- page capacity: in state 03 as the check of a filled page, in any other as that of a first-round page
 

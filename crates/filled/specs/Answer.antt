@@ -1,20 +1,14 @@
--- What filling a page and measuring one answer, and what they leave in the page (document 02, Changes 2 and 3), and the papers' number and
--- values for each case of their enums. The checks are over a shape of page; what an operation answers goes by the page's own.
+-- What filling a page and measuring one answer, and what they leave in the page (document 02, Changes 2 and 3). The checks are over a shape of
+-- page; what an operation answers goes by the page's own.
 -- Assumes nothing.
 use Rattle.std.specs.Prelude.{cond, not, ◌&&◌, List, [], ◌∷◌, ℕ, eqb, length}
-use Rattle.answer.specs.Answer.{Answer, result, refusal, Check, refuse, answer, after}
+use Rattle.answer.specs.Answer.{Answer, Check, refuse, answer, after}
 use Rattle.window.specs.Words.{page_words}
 use Rattle.word.specs.Word.{legal}
 use Rattle.word.specs.Fill.{is_filled}
 use Rattle.rows.specs.declared.shape.Shape.{Shape}
 use Rattle.rows.specs.Page.{shape_of, state, state_first, state_filled, bad_header, pulses_all, capacity_all, filled_page, second_bits_of}
 use Rattle.page.specs.Answer.{refuse_word, state_checks, first_checks}
-use Rattle.filled.specs.declared.PageFilled.{PageFilled}
-use Rattle.filled.specs.declared.PageFilled.TheVariants as pageFilled
-use Rattle.filled.specs.declared.Measured.{Measured}
-use Rattle.filled.specs.declared.Measured.TheVariants as measured
-use Rattle.filled.specs.declared.check.FilledCheck.{FilledCheck}
-use Rattle.filled.specs.declared.check.FilledCheck.TheVariants as filledCheck
 
 -- ---- fill page
 
@@ -59,27 +53,3 @@ room_of s page = cond (eqb (state page) state_filled) (room_filled s page) (room
 
 abbrev pub page_capacity_answer : List ℕ → Answer
 page_capacity_answer page = answer (capacity_checks (shape_of page) page) (room_of (shape_of page) page)
-
--- ---- the papers' number and values for each case of an enum
-
-abbrev pub page_filled_code : PageFilled → Answer
-page_filled_code (pageFilled.Pulses n) = result n
-page_filled_code pageFilled.PageLength = refusal 1 0
-page_filled_code pageFilled.State = refusal 5 0
-page_filled_code pageFilled.Header = refusal 6 0
-page_filled_code (pageFilled.Word i) = refusal 7 i
-
-abbrev pub measured_code : Measured → Answer
-measured_code (measured.Capacity n) = result n
-measured_code measured.PageLength = refusal 1 0
-measured_code measured.State = refusal 5 0
-measured_code measured.Header = refusal 6 0
-measured_code (measured.Word i) = refusal 7 i
-
--- ... and for what the check that page capacity and write second share finds
-abbrev pub filled_check_code : FilledCheck → Answer
-filled_check_code (filledCheck.Passed room) = result room
-filled_check_code filledCheck.PageLength = refusal 1 0
-filled_check_code filledCheck.State = refusal 5 0
-filled_check_code filledCheck.Header = refusal 6 0
-filled_check_code (filledCheck.Word i) = refusal 7 i

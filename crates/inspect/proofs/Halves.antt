@@ -9,12 +9,12 @@ use native.Mathlib.Omega.{arith}
 use lib.Dec.{T, eqb}
 use lib.ListN.{length, take, drop, length-drop}
 use lib.Seq.{take_all}
-use Rattle.window.specs.Words.{page_words}
-use Rattle.window.proofs.Words.{page_words_append, word_at_after}
+use Rattle.window.specs.Words.{start, page_words, Words}
+use Rattle.window.proofs.Words.{Words-page_words, page_words_append, word_at_after}
 use Rattle.rows.specs.declared.shape.Shape.{Shape}
 use Rattle.rows.specs.Page.{page256, page512, shape_for, lowest}
 use Rattle.rows.proofs.Scanning.{Passed, scan_passed}
-use Rattle.rows.proofs.Shapes.{Sound, sound256, sound512}
+use Rattle.rows.proofs.Shapes.{Sound, sound256, sound512, words_inside}
 
 -- one half or two
 pub record Halved (s : Shape) : Type 0 where
@@ -31,16 +31,41 @@ halved_found s k e = subst Halved (sym e) (go (eqb k 512))
     go true = record { sound = sound512; one_or_two = inr (refl, refl); least = omega arith; sizes = refl }
     go false = record { sound = sound256; one_or_two = inl (refl, refl); least = omega arith; sizes = refl }
 
+-- the bounds of a found shape
+pub found_bounds : (s : Shape) (k : ℕ) → s ≡ shape_for k → (44 ≤ s.words) × (s.words ≤ 88) × (256 ≤ s.size)
+found_bounds s k e = let h = halved_found s k e in (h.least, h.sound.few, omega (arith, h))
+
 -- the page from byte 253 on, as a part of it is lent
-pub second_half : (P : List ℕ) → 253 ≤ length P → take (length P - 253) (drop 253 P) ≡ drop 253 P
-second_half P h = take_all (length P - 253) (drop 253 P) (omega (arith, length-drop 253 P))
+abbrev pub lent : List ℕ → List ℕ
+lent P = take (length P - 253) (drop 253 P)
+
+-- the words of the second half
+abbrev pub back_words : Shape → List ℕ → List (List Bool)
+back_words s P = page_words (drop 253 P) (s.words - 44)
+
+-- of a page of its size
+module _ {s : Shape} (h : Halved s) (P : List ℕ) (l : length P ≡ s.size) where
+  pub whole : 256 ≤ length P
+  whole = omega (arith, h)
+
+  pub lent_is : lent P ≡ drop 253 P
+  lent_is = take_all (length P - 253) (drop 253 P) (omega (arith, length-drop 253 P))
+
+  pub lent_length : start (s.words - 44) ≤ 8 * length (lent P)
+  lent_length = omega (arith, ap length lent_is, length-drop 253 P, words_inside h.sound, h.least)
+
+  pub Words-front : Words (page_words P 44)
+  Words-front = Words-page_words P 44 (omega (arith, whole))
+
+  pub Words-back : Words (back_words s P)
+  Words-back = Words-page_words (drop 253 P) (s.words - 44) (omega (arith, ap length lent_is, lent_length))
 
 module _ (s : Shape) (h : Halved s) (P : List ℕ) where
   abbrev after : ℕ
   after = s.words - 44
 
   -- its words are those of the halves
-  pub words_split : page_words P s.words ≡ page_words P 44 ++ page_words (drop 253 P) after
+  pub words_split : page_words P s.words ≡ page_words P 44 ++ back_words s P
   words_split = let e : s.words ≡ 44 + after = omega (arith, h.least) in ap (page_words P) e ∙ page_words_append P 44 253 refl after
 
   -- a test that all pass

@@ -2,10 +2,10 @@
 -- code is asked for, but that the words which 7 judges are as many as the page has.
 -- Assumes nothing.
 use mathlib.Core.Bool.{Bool, false, ◌||◌}
-use mathlib.Core.List.{List}
+use mathlib.Core.List.{List, []}
 use mathlib.Core.Logic.Iff
 use mathlib.Core.Logic.{◌↔◌, ◌⊎◌}
-use mathlib.Core.Path.{◌≡◌, refl, ◌∙◌, subst}
+use mathlib.Core.Path.{◌≡◌, refl, sym, ◌∙◌, subst}
 use Prim.Native.Nat.{ℕ, ◌*◌, ◌≤◌, ◌<◌}
 use native.Mathlib.Omega.{arith}
 use lib.Dec.{T, ltb}
@@ -21,7 +21,7 @@ use Rattle.rows.specs.Page.{shape_of, state, tail, record_length, bad_header}
 use Rattle.rows.specs.Code.{Code, longest, room_for, written_of, found_of, judged_of, spare_of, record_of, ReadyOf, AllJudgedOf, SecondRoundOf}
 use Rattle.rows.proofs.Headers.{header_tells}
 use Rattle.page.specs.Terms.{SizedOf, RecordHeaderOf, TailSetOf, LowestBad, RefusalsOf}
-use Rattle.page.specs.Answer.{state_checks, write_checks, record_checks, read_checks}
+use Rattle.page.specs.Answer.{header_checks, state_checks, write_checks, record_checks, read_checks}
 use Rattle.page.proofs.Headed.{AllPass, headed_1, headed_5, headed_6, headed_later, headed_taken, word_7, word_later, word_taken, state_refusals, state_later, state_taken}
 
 -- ---- the writer
@@ -60,8 +60,8 @@ module _ (c : Code) (s : Shape) (P : List ℕ) where
   record_whole = (λ h. (h.0, h.1, h.2.0, h.2.1), λ h. (h.0, h.1, (h.2, h.3)))
 
   -- its length, state and header have passed
-  pub record_passed : SizedOf s P → state P ≡ c.into → bad_header (longest c s) s.words P ≡ false → RecordHeaderOf c s P
-  record_passed l e b = record_whole.0 (l, e, (header_tells s.words P (longest c s)).if_not b)
+  pub record_passed : ◌≡◌ {A = Answer} (result 0) (answer (header_checks c.into (longest c s) s P) 0) → RecordHeaderOf c s P
+  record_passed e = ((headed_taken s P c.into (header_tells s.words P (longest c s)) record_whole [] 0 0 (nothing_left 0 0)).0 (sym e)).0
 
   -- ... and all words, bits and spare cells
   pub second_passed : Bytes P → RecordHeaderOf c s P → AllJudgedOf c s P → 8 * record_length P ≤ length (found_of c s P) → spare_of c s P ≡ false

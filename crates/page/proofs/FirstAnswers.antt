@@ -8,9 +8,12 @@ use mathlib.Core.Path.{◌≡◌, refl, sym, ap, ◌∙◌}
 use Prim.Native.Nat.{ℕ, ◌≤◌, ◌<◌}
 use native.Mathlib.Omega.{arith}
 use lib.Dec.{eqb}
-use lib.ListN.{length}
+use lib.ListN.{length, get_or}
+use mir.Syntax.{w8}
+use mir.Val.{Fits}
 use Rattle.cells.specs.Bytes.{Bytes}
-use Rattle.answer.specs.Answer.{result, refusal, answer, numbers, among}
+use Rattle.answer.specs.Answer.{Answer, result, refusal, answer, numbers, among}
+use Rattle.answer.proofs.Chains.{accepted, still_refused}
 use Rattle.answer.proofs.Tells.{Tells, unequal, less, just, later, taken, nothing_left, flat3}
 use Rattle.word.specs.Word.{legal}
 use Rattle.rows.specs.declared.shape.Shape.{Shape}
@@ -65,6 +68,15 @@ module _ (s : Shape) (P : List ℕ) where
   unfolding first_checks
   check_taken x v b = state_taken state_first legal s P [] x v b (nothing_left x v)
 
+  -- the length of a page that it passed
+  pub first_sized : ◌≡◌ {A = Answer} (result 0) (answer (first_checks s P) 0) → SizedOf s P
+  unfolding first_checks
+  first_sized e = (not_sized s P).if_not ((accepted (first_checks s P) 0 0).0 (sym e)).0.0
+
+  -- ... and all that it says
+  pub first_passed : ((i : ℕ) → Fits w8 (get_or P i 0)) → ◌≡◌ {A = Answer} (result 0) (answer (first_checks s P) 0) → FirstRoundOf s P
+  first_passed b e = ((check_taken 0 0 (λ i. omega (arith, b i))).0 (sym e)).0
+
   -- ---- read first
 
   module _ (out : List ℕ) where
@@ -79,3 +91,8 @@ module _ (s : Shape) (P : List ℕ) where
     pub read_first_3 : (i : ℕ) → Bytes P → (answer {A = ℕ} (read_first_checks s P out) 0 ≡ refusal 3 i) ↔ (FirstRoundOf s P × (length out < s.first) × (i ≡ 0))
     unfolding read_first_checks first_checks numbers among
     read_first_3 i b = Iff.trans (state_later state_first legal s P _ 0 3 i b (omega arith) (just (less (length out) s.first) 3 0 _ 0 refl i)) flat3
+
+    -- what the check refuses, read first refuses
+    pub read_first_refused : (n i : ℕ) → ◌≡◌ {A = Answer} (refusal n i) (answer (first_checks s P) 0) → answer {A = ℕ} (read_first_checks s P out) 0 ≡ refusal n i
+    unfolding read_first_checks
+    read_first_refused n i e = still_refused (first_checks s P) _ 0 0 n i (sym e)

@@ -12,17 +12,17 @@ use borrow.Author.Tests.{ltb-true, ltb-false}
 use lib.Dec.{T, eqb, ltb}
 use lib.ListN.{length, get_or}
 use Rattle.cells.specs.Bytes.{Bytes, zeros}
-use Rattle.answer.specs.Answer.{result, refusal, Check, refuse, answer, numbers, among}
-use Rattle.answer.proofs.Tells.{Tells, unequal, just, later, taken, flat3, flat4}
+use Rattle.answer.specs.Answer.{Answer, result, refusal, Check, refuse, answer, numbers, among}
+use Rattle.answer.proofs.Tells.{Tells, unequal, just, later, taken, nothing_left, flat3, flat4}
 use Rattle.window.specs.Words.{page_words}
 use Rattle.window.proofs.Words.{length_page_words, get_d_page_words}
 use Rattle.rows.specs.declared.shape.Shape.{Shape}
-use Rattle.rows.specs.Page.{state, byte1, byte2, tail, bad_header, lowest, OpenOf}
+use Rattle.rows.specs.Page.{state, byte1, byte2, tail, lowest, OpenOf}
 use Rattle.rows.proofs.Headers.{empty_tells}
 use Rattle.rows.proofs.Lowest.{lowest_le, lowest_all, passed_before, failed_there}
 use Rattle.rows.proofs.Scanning.{Passed, scan_passed, all_passed}
 use Rattle.page.specs.Terms.{SizedOf, HeaderOf, LowestBad, RefusalsOf}
-use Rattle.page.specs.Answer.{refuse_word, state_checks}
+use Rattle.page.specs.Answer.{header_checks, refuse_word, state_checks}
 
 -- ---- 1, 5 for a state other than k, 6 by a test r, then other checks
 
@@ -137,8 +137,8 @@ module _ (k : ℕ) (s : Shape) (P : List ℕ) where
   header_whole = (λ h. (h.0, h.1, h.2.0, h.2.1.0, h.2.1.1), λ h. (h.0, h.1, (h.2, (h.3, h.4))))
 
   -- they have passed
-  pub header_passed : SizedOf s P → state P ≡ k → bad_header 0 s.words P ≡ false → HeaderOf k s P
-  header_passed l e b = header_whole.0 (l, e, (empty_tells s.words P).if_not b)
+  pub header_passed : ◌≡◌ {A = Answer} (result 0) (answer (header_checks k 0 s P) 0) → HeaderOf k s P
+  header_passed e = ((headed_taken s P k (empty_tells s.words P) (header_whole) [] 0 0 (nothing_left 0 0)).0 (sym e)).0
 
   -- ... and all words
   pub opened : (test : List Bool → Bool) → Bytes P → HeaderOf k s P → Passed test P s.words → OpenOf k test s P

@@ -1,47 +1,43 @@
 -- `filled::capacity` meets its contract: the length first, then by the state, for the page's own shape.
 -- Assumes nothing.
-use mathlib.Core.List.{List}
-use mathlib.Core.Path.{◌≡◌, refl, sym, ap, ◌∙◌}
-use Prim.Native.Nat.{ℕ}
+use mathlib.Core.Path.{refl, sym, ap}
 use native.Mathlib.Omega.{arith}
-use Rattle.answer.specs.Answer.{Answer, answer}
-use Rattle.rows.specs.declared.shape.Shape.{Shape}
-use Rattle.rows.specs.Page.{shape_of}
-use Rattle.rows.proofs.Shapes.{Sound, sound_found, words_inside}
-use Rattle.filled.specs.Answer.{capacity_checks, room_of}
+use Rattle.answer.specs.Answer.{result}
+use Rattle.answer.proofs.Chains.{same_refusal}
+use Rattle.word.specs.Word.{legal}
+use Rattle.rows.proofs.Shapes.{sound_found, words_inside}
+use Rattle.page.specs.Answer.{first_checks}
+use Rattle.answer.proofs.Passing.{refused_as, same_result}
+use Rattle.page.proofs.Headed.{all_words}
+use Rattle.page.proofs.FirstAnswers.{first_passed}
+use Rattle.filled.specs.Answer.{room_first}
 use Rattle.filled.proofs.FilledAnswers.{as_filled, as_first, capacity_1}
 use Rattle.filled.proofs.capacity.Goals as goal
 
--- an answer that is right for a shape, and for the page's own, which was found
-own : (P : List ℕ) (a : Answer) (s : Shape) → s ≡ shape_of P → a ≡ answer (capacity_checks s P) (room_of s P)
-    → a ≡ answer (capacity_checks (shape_of P) P) (room_of (shape_of P) P)
-own P a s e h = h ∙ ap (λ (t : Shape). answer (capacity_checks t P) (room_of t P)) e
-
 pub returns-then-page-s : goal.returns-then-page-s
 returns-then-page-s c =
-    own c.args.page.now _ _ c.shape_of-s.ensures (sym ((capacity_1 _ _ 0).1 (c.if-page-s.true, refl)))
-
-pub bounds-page-0 : goal.bounds-page-0
-bounds-page-0 c =
-    let found : Sound c.shape_of-s.result = sound_found _ _ c.shape_of-s.ensures in
-    omega (arith, (found).inside, c.if-page-s.false)
-
-pub filled_capacity-requires : goal.filled_capacity-requires
-filled_capacity-requires c =
-    let found : Sound c.shape_of-s.result = sound_found _ _ c.shape_of-s.ensures in
-    let f = found in
-    (words_inside f, omega (arith, f.small))
+    rw (← c.shape_of-s.ensures, (capacity_1 c.shape_of-s.result c.args.page.now 0).1 (c.if-page-s.true, refl)) refl
 
 pub returns-then-page-eq-STATE_FILLED : goal.returns-then-page-eq-STATE_FILLED
 returns-then-page-eq-STATE_FILLED c =
-    own _ _ _ c.shape_of-s.ensures (c.filled_capacity.ensures ∙ sym (as_filled _ _ c.if-page-eq-STATE_FILLED.true))
+    rw (← c.shape_of-s.ensures, as_filled c.shape_of-s.result c.args.page.now c.if-page-eq-STATE_FILLED.true) c.check_filled.ensures
 
-pub first_capacity-requires : goal.first_capacity-requires
-first_capacity-requires c =
-    let found : Sound c.shape_of-s.result = sound_found _ _ c.shape_of-s.ensures in
-    let f = found in
-    (words_inside f, omega (arith, f.small))
+pub returns-in_err-check_first : goal.returns-in_err-check_first
+returns-in_err-check_first c =
+    let s = c.shape_of-s.result in
+    let P = c.args.page.now in
+    let told = same_refusal (first_checks s P) 0 (room_first s P) _ _ (sym c.in_err-check_first.ensures) in
+    rw (← c.shape_of-s.ensures, refused_as _ _ c.from_residual.ensures.1, as_first s P c.if-page-eq-STATE_FILLED.false, told) refl
+
+pub capacity_of-requires : goal.capacity_of-requires
+capacity_of-requires c =
+    let f = sound_found _ _ c.shape_of-s.ensures in
+    let p = first_passed c.shape_of-s.result c.args.page.now c.type_inv.page c.in_ok-check_first.ensures in
+    (omega (arith, words_inside f, p.sized), all_words _ legal _ p.words_pass, omega (arith, f.few))
 
 pub returns : goal.returns
 returns c =
-    own _ _ _ c.shape_of-s.ensures (c.first_capacity.ensures ∙ sym (as_first _ _ c.if-page-eq-STATE_FILLED.false))
+    let s = c.shape_of-s.result in
+    let P = c.args.page.now in
+    let told = same_result (first_checks s P) 0 0 (room_first s P) c.in_ok-check_first.ensures in
+    rw (← c.shape_of-s.ensures, as_first s P c.if-page-eq-STATE_FILLED.false, told) (ap result c.capacity_of.ensures)
