@@ -5,20 +5,22 @@ use mathlib.Core.List.{List, [], ◌∷◌, ◌++◌, append_assoc, append-nil}
 use mathlib.Core.Path.{◌≡◌, refl, sym, ap, ap₂, ◌∙◌, subst}
 use Prim.Native.Nat.{ℕ, zero, suc, ◌+◌, ◌-◌, ◌*◌, ◌/◌, ◌≤◌, ◌<◌}
 use native.Mathlib.Omega.{arith}
-use borrow.Author.Tests.{ltb-true, ltb-false}
 use lib.Dec.{T, eqb, ltb}
 use lib.ListN.{length, take, drop, get_or, length-append, length-drop}
 use lib.Seq.{sets, length-take-le}
+use Rattle.std.specs.List.{starts_with}
 use Rattle.cells.specs.Bytes.{at_start}
 use Rattle.cells.proofs.Storing.{sets_then, sets_at_start}
 use Rattle.answer.specs.Answer.{AnswerOf, result, refusal, refuse, answer, after}
 use Rattle.answer.proofs.Tells.{less, first_refused, passed}
+use Rattle.transfer.specs.File.{start}
 use Rattle.receive.specs.Field.{Sort, device, page, end, passed_over, unknown, sort_of, is_unknown, least, most, sort_in, length_in, contents_in, behind}
-use Rattle.receive.specs.Read.{field_checks, field_of, kind_at, field_at, and_then, after_end, next_read, fields_read, fields_told, file_told, Told, Counts, counted, pages_told, starts_wrongly, read_file_answer, read_file_leaves}
+use Rattle.receive.specs.Read.{field_checks, field_of, kind_at, field_at, and_then, after_end, next_read, fields_read, fields_told, file_told, Told, Counts, counted, pages_told, read_file_answer, read_file_leaves}
 use Rattle.receive.specs.declared.fields.Field.{Field}
 use Rattle.receive.specs.declared.fields.FieldKind.{FieldKind}
 use Rattle.receive.specs.declared.fields.FieldKind.TheVariants.{Page}
-use Rattle.receive.proofs.Judging.{Tagged, tagged, sort_01, sort_at, start_short, not_a_result}
+use Rattle.receive.proofs.Judging.{Tagged, tagged, sort_01, sort_at, not_a_result}
+use Rattle.receive.proofs.Grammar.{right_start, wrong_start}
 use Rattle.receive.proofs.Walking.{onward, Sound, field_sound, read_whole, Stands, stands_first, stands_refused, further, after_device, Paged, after_page, after_skipped, after_end_lem}
 
 -- ---- pages are only added
@@ -91,11 +93,10 @@ pub record Copies (file out₀ out : List ℕ) (i k : ℕ) : Type 0 where
   pub P : List ℕ
   pub stands : Stands file i s d P
   pub put : out ≡ sets out₀ 0 P
-  pub same : length out ≡ length out₀
   pub count : k ≡ s - 1
 
 pub copies_first : (file out : List ℕ) → 2 ≤ length file → Copies file out out 2 0
-copies_first file out h = record { s = 0; d = 0; P = []; stands = stands_first file h; put = refl; same = refl; count = refl }
+copies_first file out h = record { s = 0; d = 0; P = []; stands = stands_first file h; put = refl; count = refl }
 
 module _ (file out₀ out : List ℕ) (n i k : ℕ) (c : Copies file out₀ out i k) (h : Counts n (fields_told file)) where
   -- all pages are there
@@ -145,30 +146,32 @@ module _ (file out₀ out : List ℕ) (n i k : ℕ) (c : Copies file out₀ out 
   pub page_there : get_or file i 0 ≡ 0x01 → i + 3 + 256 ≤ length file
   page_there e = (paged e).room
 
-  pub copies_page : (o : List ℕ) (r : ℕ) → r ≡ length_in g → get_or file i 0 ≡ 0x01 → o ≡ sets out (256 * k) (take 256 (drop (i + 3) file))
-      → length o ≡ length out → Copies file out₀ o (i + 3 + r) (k + 1)
-  copies_page o r er e eo es =
+  pub copies_page : (o : List ℕ) → get_or file i 0 ≡ 0x01 → o ≡ sets out (256 * k) (take 256 (drop (i + 3) file))
+      → Copies file out₀ o (i + 259) (k + 1)
+  copies_page o e eo =
       let p = take 256 (drop (i + 3) file) in
-      subst (λ (j : ℕ). Copies file out₀ o (i + 3 + j) (k + 1)) (sym er)
+      let w = paged e in
+      let next_is : i + 3 + length_in g ≡ i + 259 = omega (arith, w.size) in
+      subst (λ (j : ℕ). Copies file out₀ o j (k + 1)) next_is
       record {
         s = c.s + 1;
         d = c.d;
         P = c.P ++ p;
-        stands = (paged e).after;
+        stands = w.after;
         put = eo ∙ ap (λ (q : List ℕ). sets q (256 * k) p) c.put ∙ sets_then out₀ 0 c.P p (256 * k) (omega (arith, c.stands.full, c.count));
-        same = es ∙ c.same;
-        count = omega (arith, c.count, (paged e).one);
+        count = omega (arith, c.count, w.one);
       }
 
   -- it is another one; the end is not met before all pages are copied
-  pub copies_other : (r : ℕ) → r ≡ length_in g → ¬ (get_or file i 0 ≡ 0x01) → k < n → Copies file out₀ out (i + 3 + r) k
+  pub copies_other : (r : ℕ) → r ≡ length_in g → ¬ (get_or file i 0 ≡ 0x01) → k < n → Copies file out₀ out (i + (3 + r)) k
   unfolding kind_at
-  copies_other r er ne l = subst (λ (j : ℕ). Copies file out₀ out (i + 3 + j) k) (sym er) (go (sort_in g) refl)
+  copies_other r er ne l =
+      let next_is : i + 3 + length_in g ≡ i + (3 + r) = omega (arith, er) in subst (λ (j : ℕ). Copies file out₀ out j k) next_is (go (sort_in g) refl)
     where
       go : (t : Sort) → sort_in g ≡ t → Copies file out₀ out next k
       go device e =
           let w = after_device file i c.s c.d c.P c.stands next kind field_is _ (ap (λ (u : Sort). kind_at u file i) e) in
-          record { s = c.s + 1; d = _; P = c.P; stands = w.0; put = c.put; same = c.same; count = omega (arith, c.count, w.1) }
+          record { s = c.s + 1; d = _; P = c.P; stands = w.0; put = c.put; count = omega (arith, c.count, w.1) }
       go page e = absurd (ne (subst (λ (u : Sort). Tagged u (get_or file i 0)) (sym (sort_at c.s i file file (sort_of (get_or file i 0)) refl) ∙ e) (tagged (get_or file i 0))))
       go end e =
           let a = after_end_lem file i c.s c.d c.P c.stands next kind field_is (ap (λ (u : Sort). kind_at u file i) e) in
@@ -179,7 +182,6 @@ module _ (file out₀ out : List ℕ) (n i k : ℕ) (c : Copies file out₀ out 
         P = c.P;
         stands = after_skipped file i c.s c.d c.P c.stands next kind field_is (ap (λ (u : Sort). kind_at u file i) e);
         put = c.put;
-        same = c.same;
         count = c.count;
       }
       go unknown e = absurd (subst T (sym (ap is_unknown e) ∙ (read_whole file i c.s (field_of next kind) field_is).0.known) tt)
@@ -193,13 +195,13 @@ whole_pages file t e =
     let q = grown (length file) 0 0 [] (drop 2 file) t e in
     let l : length t.1 ≡ 256 * q.pages = ap length q.is ∙ q.whole in omega arith
 
-module _ (file out : List ℕ) (s : starts_wrongly file ≡ false) where
+module _ (file out : List ℕ) (s : true ≡ starts_with eqb file start) where
   abbrev count : AnswerOf Told → AnswerOf (ℕ × ℕ)
   count x = and_then x (λ (t : Told). result (counted t))
 
   told_is : file_told file ≡ fields_told file
   unfolding file_told
-  told_is = rw s refl
+  told_is = rw (right_start file s) refl
 
   pub counts : (d n : ℕ) → result (d, n) ≡ count (fields_told file) → Counts n (fields_told file)
   counts d n e = go (fields_told file) refl e
@@ -256,14 +258,6 @@ module _ (file out : List ℕ) (s : starts_wrongly file ≡ false) where
       fit (refusal a b) k = absurd k
 
 -- a wrong start
-pub start_refused : (file out : List ℕ) → starts_wrongly file ≡ true → (refusal 14 0 ≡ read_file_answer file out) × (out ≡ read_file_leaves file out)
+pub start_refused : (file out : List ℕ) → false ≡ starts_with eqb file start → (refusal 14 0 ≡ read_file_answer file out) × (out ≡ read_file_leaves file out)
 unfolding read_file_answer file_told
-start_refused file out e = rw e (refl, refl)
-
-pub started : (file : List ℕ) → starts_wrongly file ≡ false → 2 ≤ length file
-unfolding starts_wrongly
-started file e = go (ltb (length file) 2) refl e
-  where
-    go : (b : Bool) → ltb (length file) 2 ≡ b → starts_wrongly file ≡ false → 2 ≤ length file
-    go true q k = absurd (subst T (sym (start_short file (ltb-true (length file) 2 q)) ∙ k) tt)
-    go false q k = ltb-false (length file) 2 q
+start_refused file out e = rw (wrong_start file e) (refl, refl)

@@ -9,6 +9,9 @@ use borrow.Author.Tests.{eqb-true, ne_eqb, le-leb, le-ltb}
 use lib.Dec.{T, eqb, leb}
 use lib.ListN.{length, take, drop, get_or, length-append, length-drop, take-append-drop}
 use lib.Seq.{take_at, drop_at, length-take-le}
+use Rattle.std.specs.List.{starts_with}
+use Rattle.std.proofs.lemmas.Bool.Decides.{Decides-eqb}
+use Rattle.std.proofs.lemmas.Slice.Eq.{starts_is}
 use Rattle.cells.specs.Cells.{number, cells}
 use Rattle.cells.specs.Bytes.{bits, bytes, high_first, Bytes}
 use Rattle.cells.proofs.Numbers.{cells_number, number_cells, number_below, length_cells}
@@ -288,6 +291,18 @@ start_there (x ∷ y ∷ f) e = go (eqb x 0xF1) (eqb y 0xB0) refl refl (ap (λ (
 pub start_right : (f : List ℕ) → starts_wrongly (start ++ f) ≡ false
 unfolding starts_wrongly
 start_right f = rw (le-ltb (length (0xF1 ∷ 0xB0 ∷ f)) 2 (omega arith)) refl
+
+-- comparing the start tells whether it is wrong
+pub right_start : (file : List ℕ) → true ≡ starts_with eqb file start → starts_wrongly file ≡ false
+right_start file e =
+    let f : file ≡ start ++ drop 2 file = (starts_is Decides-eqb file start true e).0 refl in ap starts_wrongly f ∙ start_right (drop 2 file)
+
+pub wrong_start : (file : List ℕ) → false ≡ starts_with eqb file start → starts_wrongly file ≡ true
+wrong_start file e = go (starts_wrongly file) refl
+  where
+    go : (w : Bool) → starts_wrongly file ≡ w → w ≡ true
+    go true ew = refl
+    go false ew = (starts_is Decides-eqb file start false e).1 (drop 2 file) (start_there file ew)
 
 -- a file tells d and P exactly where it holds them
 pub told_holds : (file : List ℕ) (d : ℕ) (P : List ℕ) → Bytes file → file_told file ≡ result (d, P) → Holds file d P

@@ -1,6 +1,6 @@
 -- Laws of a field's checks, by where it stands in its file.
 -- Assumes nothing.
-use mathlib.Core.Bool.{Bool, true, false, cond, not, ◌&&◌, ◌||◌}
+use mathlib.Core.Bool.{Bool, true, false, cond, ◌&&◌, ◌||◌}
 use mathlib.Core.List.{List, [], ◌∷◌}
 use mathlib.Core.Logic.Iff
 use mathlib.Core.Logic.{◌↔◌, ◌⊎◌, inl, inr}
@@ -9,19 +9,17 @@ use Prim.Native.Nat.{ℕ, ◌+◌, ◌-◌, ◌*◌, ◌≤◌, ◌<◌}
 use native.Mathlib.Nat.{add-zero}
 use native.Mathlib.Omega.{arith}
 use mir.Facts.{and_yes}
-use borrow.Author.Tests.{eq-eqb, ne_eqb, eqb-true, leb-true, le-leb, lt-leb, lt-ltb, le-ltb}
+use borrow.Author.Tests.{eq-eqb, ne_eqb, eqb-true, leb-true, le-leb, lt-leb}
 use lib.Dec.{T, eqb, leb, ltb}
 use lib.ListN.{length, drop, get_or, length-drop}
 use lib.Seq.{get_or-drop}
 use Rattle.cells.proofs.Tests.{is_true}
 use Rattle.answer.specs.Answer.{AnswerOf, result, refusal, Check, refuse, answer}
+use Rattle.answer.proofs.Chains.{same_refusal}
 use Rattle.answer.proofs.Tells.{Tells, less, either, first_refused, passed, taken, nothing_left, flat3, flat4}
 use Rattle.receive.specs.Field.{Sort, device, page, end, passed_over, unknown, sort_of, is_unknown, in_place, least, most, sort_in, length_in}
-use Rattle.receive.specs.Read.{length_checks, field_checks, starts_wrongly, after_end, field_of, field_at, kind_at, and_then, span_code, field_read_code}
+use Rattle.receive.specs.Read.{length_checks, field_checks, after_end, field_of, span_at, field_at, kind_at, and_then}
 use Rattle.receive.specs.declared.fields.FieldKind.{FieldKind}
-use Rattle.receive.specs.declared.fields.FieldRead.{FieldRead}
-use Rattle.receive.specs.declared.fields.Span.{Span}
-use Rattle.receive.specs.declared.fields.Span.TheVariants.{Next}
 
 -- a refusal is not a result
 pub not_a_result : {A : Type 0} {B : Type 0} (n i : ℕ) (t : A) → ◌≡◌ {A = AnswerOf A} (refusal n i) (result t) → B
@@ -33,6 +31,10 @@ unfolding answer
 then_result [] x g = refl
 then_result (refuse true n i ∷ cs) x g = refl
 then_result (refuse false n i ∷ cs) x g = then_result cs x g
+
+-- so is the result of a call that was gone on with
+pub made : {A B : Type 0} (cs : List Check) (x : A) (g : A → B) (v : A) → result v ≡ answer cs x → result (g v) ≡ answer cs (g x)
+made {A} cs x g v e = ap (λ (y : AnswerOf A). and_then y (λ (w : A). result (g w))) e ∙ then_result cs x g
 
 -- ---- the length and the contents
 
@@ -150,11 +152,6 @@ module _ {A : Type 0} (s i : ℕ) (file : List ℕ) (x : A) where
       let n : ¬ (length g ≡ 0) = λ q. omega (arith, length-drop i file) in
       rw (ne_eqb (length g) 0 n, sort_at t e, u, p) refl
 
--- what is made of a span is what is made of the checks' result
-pub carried : {A : Type 0} (cs : List Check) (x : ℕ) (g : ℕ → A) (w : Span) → span_code w ≡ answer cs x
-    → and_then (span_code w) (λ (n : ℕ). result (g n)) ≡ answer cs (g x)
-carried cs x g w e = ap (λ (y : AnswerOf ℕ). and_then y (λ (n : ℕ). result (g n))) e ∙ then_result cs x g
-
 -- the whole field: its answer where the sort is known and in place, by what its length and contents give
 module _ (file : List ℕ) (i s : ℕ) where
   pub field_there : (t : Sort) (a z : ℕ) (k : FieldKind) → i < length file → sort_of (get_or file i 0) ≡ t → is_unknown t ≡ false → in_place t s ≡ true
@@ -166,15 +163,17 @@ module _ (file : List ℕ) (i s : ℕ) where
       ∙ ap₂ (λ (x y : ℕ). answer (length_checks x y (drop i file)) (field_of (i + 3 + length_in (drop i file)) (kind_at (sort_in (drop i file)) file i))) ea ez
       ∙ ap (λ (m : FieldKind). answer (length_checks a z (drop i file)) (field_of (i + 3 + length_in (drop i file)) m)) (ap (λ (u : Sort). kind_at u file i) (sort_at s i file file t e) ∙ ek)
 
-  -- by a span
-  pub field_spanned : (t : Sort) (a z : ℕ) (k : FieldKind) (w : Span) (r : FieldRead) → i < length file → sort_of (get_or file i 0) ≡ t → is_unknown t ≡ false
-      → in_place t s ≡ true → least t ≡ a → most t ≡ z → kind_at t file i ≡ k
-      → span_code w ≡ answer (length_checks a z (drop i file)) (i + 3 + length_in (drop i file))
-      → field_read_code r ≡ and_then (span_code w) (λ (n : ℕ). result (field_of n k))
-      → field_read_code r ≡ field_at file i s
-  field_spanned t a z k w r h e u p ea ez ek ew er =
-      er ∙ carried (length_checks a z (drop i file)) (i + 3 + length_in (drop i file)) (λ (n : ℕ). field_of n k) w ew
-      ∙ sym (field_there t a z k h e u p ea ez ek)
+  -- by where it ends
+  pub field_spanned : (t : Sort) (a z : ℕ) (k : FieldKind) (n : ℕ) → i < length file → sort_of (get_or file i 0) ≡ t → is_unknown t ≡ false
+      → in_place t s ≡ true → least t ≡ a → most t ≡ z → kind_at t file i ≡ k → result n ≡ span_at a z file i → result (field_of n k) ≡ field_at file i s
+  field_spanned t a z k n h e u p ea ez ek w =
+      made (length_checks a z (drop i file)) (i + 3 + length_in (drop i file)) (λ (m : ℕ). field_of m k) n w ∙ sym (field_there t a z k h e u p ea ez ek)
+
+  -- or by the refusal of its length or its contents
+  pub field_unspanned : (t : Sort) (a z : ℕ) (k : FieldKind) (m j : ℕ) → i < length file → sort_of (get_or file i 0) ≡ t → is_unknown t ≡ false
+      → in_place t s ≡ true → least t ≡ a → most t ≡ z → kind_at t file i ≡ k → refusal m j ≡ span_at a z file i → refusal m j ≡ field_at file i s
+  field_unspanned t a z k m j h e u p ea ez ek w =
+      sym (field_there t a z k h e u p ea ez ek ∙ same_refusal (length_checks a z (drop i file)) (i + 3 + length_in (drop i file)) _ m j (sym w))
 
 -- ---- what an accepted length tells
 
@@ -188,9 +187,8 @@ length_taken a z f x v =
     flat4
 
 -- the contents of a device number are there
-pub four_there : (i : ℕ) (file : List ℕ) (w : Span) (n x : ℕ) → w ≡ Next n → span_code w ≡ answer (length_checks 4 4 (drop i file)) x → i + 3 + 4 ≤ length file
-four_there i file w n x ew e =
-    let h = (length_taken 4 4 (drop i file) x n).0 (sym e ∙ ap span_code ew) in omega (arith, length-drop i file)
+pub four_there : (i : ℕ) (file : List ℕ) (n : ℕ) → result n ≡ span_at 4 4 file i → i + 3 + 4 ≤ length file
+four_there i file n e = let h = (length_taken 4 4 (drop i file) _ n).0 (sym e) in omega (arith, length-drop i file, h)
 
 -- ---- places
 
@@ -210,28 +208,6 @@ page_in s n h = rw (le-leb 1 s (omega arith), le-leb s 64 h) refl
 pub end_in : (s : ℕ) → ¬ (s ≡ 0) → in_place end s ≡ true
 unfolding in_place
 end_in s n = le-leb 1 s (omega arith)
-
--- ---- the start
-
-not_not : (b : Bool) → not (not b) ≡ b
-not_not true = refl
-not_not false = refl
-
--- what a test of the start tells
-pub start_told : (file : List ℕ) (r : Bool) → r ≡ not (starts_wrongly file) → starts_wrongly file ≡ not r
-start_told file r e = sym (ap not e ∙ not_not (starts_wrongly file))
-
-pub start_short : (file : List ℕ) → length file < 2 → starts_wrongly file ≡ true
-unfolding starts_wrongly
-start_short file h = rw (lt-ltb (length file) 2 h) refl
-
-pub start_first : (file : List ℕ) → 2 ≤ length file → ¬ (get_or file 0 0 ≡ 0xF1) → starts_wrongly file ≡ true
-unfolding starts_wrongly
-start_first file h n = rw (le-ltb (length file) 2 h, ne_eqb (get_or file 0 0) 0xF1 n) refl
-
-pub start_second : (file : List ℕ) → 2 ≤ length file → get_or file 0 0 ≡ 0xF1 → eqb (get_or file 1 0) 0xB0 ≡ not (starts_wrongly file)
-unfolding starts_wrongly
-start_second file h e = rw (le-ltb (length file) 2 h, eq-eqb (get_or file 0 0) 0xF1 e) (sym (not_not (eqb (get_or file 1 0) 0xB0)))
 
 -- ---- the end
 

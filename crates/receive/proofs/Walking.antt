@@ -189,6 +189,7 @@ module _ (file : List ℕ) (i s d : ℕ) (P : List ℕ) (w : Stands file i s d P
       pub after : Stands file n (s + 1) d (P ++ take 256 (drop from file))
       pub one : 1 ≤ s
       pub room : from + 256 ≤ length file
+      pub size : length_in g ≡ 256
 
     pub after_page : (from : ℕ) → k ≡ Page from → Paged from
     unfolding next_read in_place least most kind_at
@@ -219,6 +220,7 @@ module _ (file : List ℕ) (i s d : ℕ) (P : List ℕ) (w : Stands file i s d P
           };
           one = one;
           room = room;
+          size = size;
         }
 
     pub after_skipped : k ≡ Skipped → Stands file n s d P

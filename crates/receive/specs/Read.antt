@@ -1,21 +1,16 @@
--- What the reader of a transfer file answers and what it leaves in its output (document 02, Change 10), and the paper's number and values
--- for each case of its enums.
+-- What the reader of a transfer file answers and what it leaves in its output (document 02, Change 10).
 -- Assumes nothing.
-use Rattle.std.specs.Prelude.{Bool, cond, not, ◌||◌, List, [], ◌∷◌, ◌++◌, ◌≡◌, ℕ, zero, suc, ◌+◌, ◌*◌, ◌/◌, eqb, ltb, length, take, drop, get_or}
+use Rattle.std.specs.Prelude.{Bool, cond, not, ◌||◌, List, [], ◌∷◌, ◌++◌, ◌≡◌, ℕ, zero, suc, ◌+◌, ◌*◌, ◌/◌, eqb, ltb, length, take, drop, get_or, Result}
 use Rattle.cells.specs.Cells.{number}
 use Rattle.cells.specs.Bytes.{bits, at_start}
-use Rattle.answer.specs.Answer.{AnswerOf, result, refusal, Check, refuse, answer, after}
+use Rattle.answer.specs.declared.Refusal.{Refusal}
+use Rattle.answer.specs.Answer.{AnswerOf, result, refusal, Check, refuse, answer, after, answer_by}
 use Rattle.transfer.specs.File.{start, device_bytes, page_bytes}
 use Rattle.receive.specs.Field.{Sort, device, page, end, passed_over, unknown, is_unknown, in_place, least, most, sort_in, length_in, contents_in, behind}
 use Rattle.receive.specs.declared.fields.FieldKind.{FieldKind}
 use Rattle.receive.specs.declared.fields.FieldKind.TheVariants.{Device, Page, End, Skipped}
 use Rattle.receive.specs.declared.fields.Field.{Field}
-use Rattle.receive.specs.declared.fields.FieldRead.{FieldRead}
-use Rattle.receive.specs.declared.fields.FieldRead.TheVariants.{Whole, Cut, Wrong}
-use Rattle.receive.specs.declared.fields.Span.{Span}
-use Rattle.receive.specs.declared.fields.Span.TheVariants.{Next, Missing, OtherLength}
-use Rattle.receive.specs.declared.FileRead.{FileRead}
-use Rattle.receive.specs.declared.FileRead.TheVariants.{Contents, FileCut, FileField, FileTail, OutputLength}
+use Rattle.receive.specs.declared.Contents.{Contents}
 
 -- ---- one field
 
@@ -45,28 +40,14 @@ kind_at unknown file i = Skipped
 abbrev pub field_of : ℕ → FieldKind → Field
 field_of n k = record { next = n; kind = k }
 
--- by its length and contents alone: where the next one starts; and the field of a device number
+-- by its length and contents alone: where the next one starts
 abbrev pub span_at : ℕ → ℕ → List ℕ → ℕ → AnswerOf ℕ
 span_at a z file i = answer (length_checks a z (drop i file)) (i + 3 + length_in (drop i file))
-
-abbrev pub device_at : List ℕ → ℕ → AnswerOf Field
-device_at file i =
-    answer (length_checks device_bytes device_bytes (drop i file)) (field_of (i + 3 + length_in (drop i file)) (kind_at device file i))
 
 -- after s fields that were not passed over
 unfoldable pub field_at : List ℕ → ℕ → ℕ → AnswerOf Field
 field_at file i s =
     answer (field_checks s (drop i file)) (field_of (i + 3 + length_in (drop i file)) (kind_at (sort_in (drop i file)) file i))
-
-abbrev pub field_read_code : FieldRead → AnswerOf Field
-field_read_code (Whole f) = result f
-field_read_code Cut = refusal 14 0
-field_read_code Wrong = refusal 15 0
-
-abbrev pub span_code : Span → AnswerOf ℕ
-span_code (Next n) = result n
-span_code Missing = refusal 14 0
-span_code OtherLength = refusal 15 0
 
 -- ---- the file
 
@@ -131,9 +112,6 @@ Counts n (refusal m i) = ⊥
 abbrev pub read_file_leaves : List ℕ → List ℕ → List ℕ
 read_file_leaves file out = after (read_file_answer file out) out (at_start (pages_told (file_told file)) out)
 
-abbrev pub file_read_code : FileRead → AnswerOf (ℕ × ℕ)
-file_read_code (Contents d n) = result (d, n)
-file_read_code FileCut = refusal 14 0
-file_read_code FileField = refusal 15 0
-file_read_code FileTail = refusal 16 0
-file_read_code OutputLength = refusal 3 0
+-- the answer that a result of the code is
+abbrev pub contents_answer : Result Contents Refusal → AnswerOf (ℕ × ℕ)
+contents_answer r = answer_by (λ c. (c.device, c.pages)) r

@@ -1,14 +1,16 @@
 // The transfer file, which carries the pages of one device (document 02, Change 1): written from pages of any content.
 //
-// The operation takes byte slices of every length and has no `requires`. It answers by an enum: a value case, and a case for each refusal.
-// The first refusal that applies is given, and a refusal writes no byte.
+// The operation takes byte slices of every length and has no `requires`. The first refusal that applies is given, and a refusal writes no
+// byte.
 #![tactic(auto)]
 
 ghost use Rattle.std.specs.Prelude.{◌≡◌, ◌+◌, ◌*◌, ◌≤◌, length};
 ghost use Rattle.std.proofs.lemmas.List.Edits.{sets};
+ghost use Rattle.answer.specs.Answer.{answer_of};
 ghost use Rattle.transfer.specs.File.{start, head, device_field, page_fields};
-ghost use Rattle.transfer.specs.Answer.{write_file_answer, write_file_leaves, file_written_code};
+ghost use Rattle.transfer.specs.Answer.{write_file_answer, write_file_leaves};
 
+use answer::Refusal;
 use cells::{copy_page, put_bytes};
 
 // The fixed start, the tags, and the sizes of what they hold, for the reader too.
@@ -26,14 +28,6 @@ pub const PAGE_BYTES: u16 = 256;
 
 pub const MOST_PAGES: usize = 64;
 
-// What writing a file gives.
-#[derive(Drop)]
-pub enum FileWritten {
-    Length(u32),
-    PagesLength,
-    OutputLength,
-}
-
 // Puts the fixed start.
 fn put_start(out: &mut [u8])
     requires { 2 ≤ length out.old }
@@ -48,9 +42,10 @@ fn put_head(out: &mut [u8], k: usize, tag: u8, n: u16)
     requires { k + 3 ≤ length out.old }
     ensures { out.new ≡ sets out.old k (head tag n) }
 {
+    let [high, low] = n.to_be_bytes();
     out[k] = tag;
-    out[k + 1] = (n / 256) as u8;
-    out[k + 2] = (n % 256) as u8;
+    out[k + 1] = high;
+    out[k + 2] = low;
 }
 
 // Puts the device number's field, at byte 2.
@@ -75,24 +70,21 @@ fn put_pages(out: &mut [u8], pages: &[u8], n: usize)
 
 // Write file: puts the file of the device number and the pages at the start of the output. The pages' length is compared before anything
 // is multiplied.
-pub fn write_file(device: u32, pages: &[u8], out: &mut [u8]) -> FileWritten
-    ensures answer { file_written_code result ≡ write_file_answer device pages.now out.old }
+pub fn write_file(device: u32, pages: &[u8], out: &mut [u8]) -> Result<u32, Refusal>
+    ensures answer { answer_of result ≡ write_file_answer device pages.now out.old }
     ensures bytes { out.new ≡ write_file_leaves device pages.now out.old }
 {
-    if pages.len() % 256 != 0 {
-        return FileWritten::PagesLength;
-    }
-    if 256 * MOST_PAGES < pages.len() {
-        return FileWritten::PagesLength;
+    if pages.len() % 256 != 0 || 256 * MOST_PAGES < pages.len() {
+        return Err(Refusal::PagesLength);
     }
     let n = pages.len() / 256;
     let end = 9 + 259 * n;
     if out.len() < end + 3 {
-        return FileWritten::OutputLength;
+        return Err(Refusal::OutputLength);
     }
     put_start(out);
     put_device(out, device);
     put_pages(out, pages, n);
     put_head(out, end, END_TAG, 0);
-    FileWritten::Length((end + 3) as u32)
+    Ok((end + 3) as u32)
 }

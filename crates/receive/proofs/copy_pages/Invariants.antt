@@ -1,11 +1,14 @@
--- `receive::copy_pages` meets its contract: before each turn the first pages are put. Assumes nothing.
+-- `receive::copy_pages` meets its contract: before each field that it looks at the first i pages are put. Assumes nothing.
 use Prim.Native.Nat.{◌-◌}
 use lib.ListN.{length}
 use Rattle.receive.proofs.Copying.{Copies}
 use Rattle.receive.proofs.copy_pages.Given as goal
 
-abbrev pub invariant-loop-copied : goal.invariant-loop-copied
-invariant-loop-copied l = Copies l.file l.initial.out l.out l.at l.copied
+abbrev pub invariant-loop-i : goal.invariant-loop-i
+invariant-loop-i l = Copies l.file l.fn.out l.out l.at l.i
 
-abbrev pub decreases-loop-copied : goal.decreases-loop-copied
-decreases-loop-copied l = length l.file - l.at
+abbrev pub invariant-loop-at : goal.invariant-loop-at
+invariant-loop-at l = Copies l.file l.fn.out l.out l.at l.i
+
+abbrev pub decreases-loop-at : goal.decreases-loop-at
+decreases-loop-at l = length l.file - l.at

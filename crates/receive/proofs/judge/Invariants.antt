@@ -5,8 +5,8 @@ use lib.ListN.{length}
 use Rattle.receive.proofs.Walking.{Stands}
 use Rattle.receive.proofs.judge.Given as goal
 
-abbrev pub invariant-loop-f : goal.invariant-loop-f
-invariant-loop-f l = (P : List ℕ) × Stands l.file l.at l.seen l.device P
+abbrev pub invariant-loop-field : goal.invariant-loop-field
+invariant-loop-field l = (P : List ℕ) × Stands l.file l.at l.seen l.device P
 
-abbrev pub decreases-loop-f : goal.decreases-loop-f
-decreases-loop-f l = length l.file - l.at
+abbrev pub decreases-loop-field : goal.decreases-loop-field
+decreases-loop-field l = length l.file - l.at

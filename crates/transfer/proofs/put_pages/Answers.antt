@@ -29,13 +29,8 @@ turn out₀ out mid next pages i h eo em en =
 
 pub loop-i-init : goal.loop-i-init
 unfolding page_fields
-loop-i-init c =
-    (omega arith, refl, refl)
+loop-i-init c = refl
 
 pub loop-i-preserved : goal.loop-i-preserved
 loop-i-preserved c =
-    let a = c.args in (
-      omega arith,
-      turn a.out.now c.loop-i.out c.put_head.new.out c.copy_page.new.out a.pages.now c.loop-i.i (omega arith) c.loop-i.invariant.1 c.put_head.ensures c.copy_page.ensures,
-      c.copy_page.auto.out ∙ c.put_head.auto.out ∙ c.loop-i.invariant.2,
-    )
+    turn c.args.out.now c.loop-i.out c.put_head.new.out c.copy_page.new.out c.args.pages.now c.loop-i.i (omega arith) c.loop-i.invariant c.put_head.ensures c.copy_page.ensures

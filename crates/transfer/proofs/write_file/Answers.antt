@@ -1,20 +1,19 @@
 -- `transfer::write_file` meets its contract: each test answers as the definition does, in its order, and the parts one after another are
 -- the file. Assumes nothing.
 use mathlib.Core.List.{List, ◌++◌}
-use mathlib.Core.Logic.{inl, inr}
+use mathlib.Core.Logic.{◌⊎◌, inl, inr}
 use mathlib.Core.Path.{◌≡◌, refl, sym, ap, ap₂, ◌∙◌}
-use Prim.Native.Nat.{ℕ, ◌+◌, ◌*◌, ◌/◌, ◌≤◌}
+use Prim.Native.Nat.{ℕ, ◌+◌, ◌*◌, ◌/◌, ◌%◌, ◌≤◌, ◌<◌}
 use native.Mathlib.Omega.{arith}
 use lib.ListN.{length}
 use lib.Seq.{sets}
 use Rattle.cells.specs.Bytes.{at_start}
 use Rattle.cells.proofs.Storing.{sets_then, sets_at_start}
-use Rattle.answer.proofs.Chains.{both_refused, both_done}
 use Rattle.transfer.specs.File.{start, head, device_field, page_fields, end_field, file_of}
 use Rattle.transfer.proofs.Fields.{field_empty}
 use Rattle.transfer.proofs.FileAnswers.{write_file, write_file_13, write_file_3}
 use Rattle.transfer.proofs.Places.{front, length_front, length_before, file_of_lem, length_file}
-use Rattle.answer.proofs.Chains.{given_both}
+use Rattle.transfer.proofs.write_file.Goals.{then-pages-ne0-via-then-pages-ne0, then-pages-ne0-via-else-pages-ne0+then-pages}
 use Rattle.transfer.proofs.write_file.Goals as goal
 
 -- the four parts, one after another
@@ -35,18 +34,20 @@ parts d n P out o₁ o₂ o₃ o₄ h room e₁ e₂ e₃ e₄ =
 
 pub returns-then-pages-ne0 : goal.returns-then-pages-ne0
 returns-then-pages-ne0 c =
-    given_both (both_refused _ _ _ _ _ ((write_file_13 _ _ _ 0).1 (inl c.if-pages-ne0.true, refl))) λ told left. record { answer = told; bytes = left }
-
-pub returns-then-pages : goal.returns-then-pages
-returns-then-pages c =
-    given_both (both_refused _ _ _ _ _ ((write_file_13 _ _ _ 0).1 (inr (omega (arith, c.if-pages.true)), refl))) λ told left. record { answer = told; bytes = left }
+    let a = c.args in
+    let wrong : (¬ (length a.pages.now % 256 ≡ 0)) ⊎ (256 * 64 < length a.pages.now) =
+    elim c.then-pages-ne0.branch [
+      | then-pages-ne0-via-then-pages-ne0 w ↦ inl w.if-pages-ne0.true
+      | then-pages-ne0-via-else-pages-ne0+then-pages w ↦ inr (omega (arith, w.if-pages.true))
+    ] in
+    rw ((write_file_13 a.device a.pages.now a.out.now 0).1 (wrong, refl)) (record { answer = refl; bytes = refl })
 
 pub returns-then-out-end : goal.returns-then-out-end
 returns-then-out-end c =
     let a = c.args in
     let p = a.pages.now in
-    let e : length p ≡ 256 * (length p / 256) = omega arith in given_both (both_refused _ _ _ _ _
-    ((write_file_3 a.device p a.out.now 0).1 ((c.if-pages-ne0.false, omega (arith, c.if-pages.false)), omega (arith, length_file a.device (length p / 256) p e), refl))) λ told left. record { answer = told; bytes = left }
+    let e : length p ≡ 256 * (length p / 256) = omega arith in
+    rw ((write_file_3 a.device p a.out.now 0).1 ((c.if-pages-ne0.false, omega (arith, c.if-pages.false)), omega (arith, length_file a.device (length p / 256) p e), refl)) (record { answer = refl; bytes = refl })
 
 pub returns : goal.returns
 returns c =
@@ -54,7 +55,8 @@ returns c =
     let p = a.pages.now in
     let n = length p / 256 in
     let e : length p ≡ 256 * n = omega arith in
-    let size : 12 + 259 * n ≡ length (file_of a.device p) = sym (length_file a.device n p e) in
-    let size' : 9 + 259 * n + 3 ≡ length (file_of a.device p) = omega (arith, size) in given_both (both_done _ _ _ _ _
-    ((write_file a.device p a.out.now (9 + 259 * n + 3)).1 ((c.if-pages-ne0.false, omega (arith, c.if-pages.false)), omega (arith, size), size'))
-    (parts a.device n p a.out.now _ _ _ _ e (omega arith) c.put_start.ensures c.put_device.ensures c.put_pages.ensures c.put_head.ensures)) λ told left. record { answer = told; bytes = left }
+    let size : 9 + 259 * n + 3 ≡ length (file_of a.device p) = omega (arith, length_file a.device n p e) in
+    rw ((write_file a.device p a.out.now (9 + 259 * n + 3)).1 ((c.if-pages-ne0.false, omega (arith, c.if-pages.false)), omega (arith, size), size)) (record {
+      answer = refl;
+      bytes = parts a.device n p a.out.now _ _ _ _ e (omega arith) c.put_start.ensures c.put_device.ensures c.put_pages.ensures c.put_head.ensures;
+    })
