@@ -9,18 +9,17 @@ ghost use Rattle.std.specs.Prelude.{List, ◌≡◌, ℕ, replicate};
 ghost use Rattle.report.specs.Listing.{pieces_of, first_turn};
 ghost use Rattle.sheet.specs.Sheet.{tally_of, sheet_of};
 
-use report::Turn;
 use sheet::Tally;
 
 // Refills the buffer and counts what came, turn after turn from the first, until there is none: the tally of an input.
-fn tally_pages(rt: &HostRuntime, page: &mut [u8], first: Turn) -> Tally
+fn tally_pages(rt: &HostRuntime, page: &mut [u8], first: Option<u32>) -> Tally
     requires zeros { page.old ≡ replicate 256 0 }
     requires from { first ≡ first_turn }
     ensures { (l : List ℕ) × (result ≡ tally_of (pieces_of l)) }
 {
     let mut tally = sheet::no_pages();
     let mut turn = first;
-    while let Turn::Page(index) = turn {
+    while let Some(index) = turn {
         let n = streams::read_full(&mut rt.stdin(), page);
         tally = sheet::tally_piece(tally, page, n);
         turn = report::next_turn(index, n, true);
@@ -39,9 +38,7 @@ fn write_line(rt: &HostRuntime, line: &[u8]) -> bool
 fn write_sheet(rt: &HostRuntime, tally: Tally) -> bool
     requires { (l : List ℕ) × (tally ≡ tally_of (pieces_of l)) }
 {
-    let mut line = [0u8; 128];
-    let k = sheet::put_sheet(tally, &mut line);
-    write_line(rt, &line[..k])
+    write_line(rt, sheet::put_sheet(tally).bytes())
 }
 
 fn main(rt: HostRuntime) {

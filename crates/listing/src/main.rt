@@ -6,9 +6,6 @@
 
 ghost use Rattle.std.specs.Prelude.{Bool, ◌≡◌, replicate, take};
 ghost use Rattle.report.specs.Listing.{turn_line, first_turn, next_turn};
-ghost use Rattle.report.specs.declared.Turn.TheVariants.{End};
-
-use report::Turn;
 
 // Writes the line of a page of which n bytes came; whether all of it was written.
 fn write_line(rt: &HostRuntime, index: u32, page: &[u8], n: usize, line: &[u8]) -> bool
@@ -18,22 +15,21 @@ fn write_line(rt: &HostRuntime, index: u32, page: &[u8], n: usize, line: &[u8]) 
 }
 
 // The turn of a page of which n bytes came, and the turn after it.
-fn list_page(rt: &HostRuntime, index: u32, page: &[u8], n: usize) -> Turn
+fn list_page(rt: &HostRuntime, index: u32, page: &[u8], n: usize) -> Option<u32>
     ensures { (written : Bool) × (result ≡ next_turn index n written) }
 {
-    let mut line = [0u8; 32];
-    let k = report::put_turn(index, page, n, &mut line);
-    report::next_turn(index, n, write_line(rt, index, page, n, &line[..k]))
+    let line = report::put_turn(index, page, n);
+    report::next_turn(index, n, write_line(rt, index, page, n, line.bytes()))
 }
 
 // Refills the buffer and lists what came, turn after turn from the first, until there is none.
-fn list_pages(rt: &HostRuntime, page: &mut [u8], first: Turn) -> Turn
+fn list_pages(rt: &HostRuntime, page: &mut [u8], first: Option<u32>) -> Option<u32>
     requires zeros { page.old ≡ replicate 256 0 }
     requires from { first ≡ first_turn }
-    ensures { result ≡ End }
+    ensures { result ≡ None }
 {
     let mut turn = first;
-    while let Turn::Page(index) = turn {
+    while let Some(index) = turn {
         let n = streams::read_full(&mut rt.stdin(), page);
         turn = list_page(rt, index, page, n);
     }

@@ -26,7 +26,7 @@ use Rattle.second.specs.Answer.{read_second_answer}
 use Rattle.inspect.specs.Rows.{inspect_code}
 use Rattle.inspect.specs.Answer.{read_inspect_answer}
 use Rattle.report.specs.Claims.{blank, Sized}
-use Rattle.report.specs.Kinds.{kind_by, kind_of, blank_kind, open_kind}
+use Rattle.report.specs.Kinds.{kind_by, kind_of, blank_kind}
 use Rattle.report.specs.declared.Kind.{Kind}
 use Rattle.report.specs.declared.Kind.TheVariants.{Blank, First, Filled, Second, Bad}
 
@@ -48,10 +48,6 @@ module _ (P : List ℕ) where
     unfolding kind_of
     kind_03 s = rw (eq-eqb (length P) 256 sized) rw s refl
 
-    -- in either of these, by the state
-    pub kind_open : (state P ≡ 1) ⊎ (state P ≡ 3) → kind_of P ≡ kind_by (open_kind (state P)) (page_capacity_answer P)
-    kind_open s = ⊎_elim (λ e. kind_01 e ∙ rw e refl) (λ e. kind_03 e ∙ rw e refl) s
-
     pub kind_07 : state P ≡ 7 → kind_of P ≡ kind_by Second (read_second_answer P (blank_of 126))
     unfolding kind_of
     kind_07 s = rw (eq-eqb (length P) 256 sized) rw s refl
@@ -65,6 +61,9 @@ module _ (P : List ℕ) where
     kind_unknown s0 s1 s3 s7 s9 =
         rw (eq-eqb (length P) 256 sized) rw (ne_eqb (state P) 0 s0) rw (ne_eqb (state P) 1 s1) rw (ne_eqb (state P) 3 s3) rw (ne_eqb (state P) 7 s7)
         rw (ne_eqb (state P) 9 s9) refl
+
+-- by the length and the state
+pub ruleset by_state = (kind_not_sized, kind_00, kind_01, kind_03, kind_07, kind_09, kind_unknown)
 
 -- ---- why a piece has its kind
 

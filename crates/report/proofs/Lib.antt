@@ -1,4 +1,5 @@
 -- The laws of kinds, lines and listings.
+pub mod Names
 pub mod Deciding
 pub mod Turning
 pub mod Listings

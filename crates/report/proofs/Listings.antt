@@ -12,11 +12,10 @@ use lib.ListN.{length, take, drop, drop_of_length-le, length-append, length-drop
 use lib.Seq.{length-take-le, take_all, take-append_seam, take-take, take_at, drop_at}
 use Rattle.cells.specs.Bytes.{at_start}
 use Rattle.window.proofs.Words.{drop_take}
+use Rattle.std.specs.Prelude.{Option, Some, None}
 use Rattle.report.specs.Kinds.{kind_of}
 use Rattle.report.specs.Lines.{line_of}
 use Rattle.report.specs.Listing.{pieces_from, lines_from, listing_from, turn_line, next_turn, refilled, turns_from}
-use Rattle.report.specs.declared.Turn.{Turn}
-use Rattle.report.specs.declared.Turn.TheVariants.{Page, End}
 use Rattle.report.proofs.Turning.{next_unwritten, next_short, next_last, next_page}
 
 -- ---- page by page
@@ -110,11 +109,11 @@ listing_turn k index (b ∷ l) = refl
 -- ---- the turns
 
 -- the turn where so many pages are still to be listed, from an index on
-abbrev pub due : ℕ → ℕ → Turn
-due zero index = End
-due (suc m) index = Page index
+abbrev pub due : ℕ → ℕ → Option ℕ
+due zero index = None
+due (suc m) index = Some index
 
-turns_end : (w : ℕ → Bool) (k : ℕ) (page l : List ℕ) → turns_from w k End page l ≡ []
+turns_end : (w : ℕ → Bool) (k : ℕ) (page l : List ℕ) → turns_from w k None page l ≡ []
 unfolding turns_from
 turns_end w zero page l = refl
 turns_end w (suc k) page l = refl
@@ -131,11 +130,11 @@ module _ (w : ℕ → Bool) (last : ℕ) (limit : last ≤ 4095) (written : (i :
   next_due zero index n e s =
       let same : index ≡ last = omega arith in
       ⊎_elim (λ h. next_last index n (w index) (omega arith)) (λ h. next_unwritten index n (w index) (ap w same ∙ h)) stop
-  next_due (suc m) index n e s = next_page index n (w index) (written index (omega arith)) s (omega arith) ∙ ap Page (add-one index)
+  next_due (suc m) index n e s = next_page index n (w index) (written index (omega arith)) s (omega arith) ∙ ap Some (add-one index)
 
   -- after any piece: what is so of the turn that is due, and of none where no input is left, is so of the turn that follows
-  pub after_piece : {X : Type 0} (F : Turn → X) (x : X) (m index : ℕ) (l : List ℕ) → index + suc m ≡ suc last
-      → (drop 256 l ≡ [] → F End ≡ x) → F (due m (suc index)) ≡ x → F (next_turn index (length (take 256 l)) (w index)) ≡ x
+  pub after_piece : {X : Type 0} (F : Option ℕ → X) (x : X) (m index : ℕ) (l : List ℕ) → index + suc m ≡ suc last
+      → (drop 256 l ≡ [] → F None ≡ x) → F (due m (suc index)) ≡ x → F (next_turn index (length (take 256 l)) (w index)) ≡ x
   after_piece {X} F x m index l e none more = go (ltb (length l) 256) refl
     where
       go : (b : Bool) → ltb (length l) 256 ≡ b → F (next_turn index (length (take 256 l)) (w index)) ≡ x

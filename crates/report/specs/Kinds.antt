@@ -18,10 +18,6 @@ kind_by kind (refusal n i) = Bad n
 abbrev pub blank_kind : List ℕ → Kind
 blank_kind piece = cond (is_blank 256 piece) Blank (Bad 4)
 
--- in state 03 filled, in state 01 in its first round
-abbrev pub open_kind : ℕ → ℕ → Kind
-open_kind state n = cond (eqb state state_filled) (Filled n) (First n)
-
 -- `first` and `filled` have the capacity in bits, `second` the length in bytes: what page capacity and the reader of the page's code answer, the
 -- reader given an output that every record fits, read second in state 07 and read Inspect in state 09. `bad` has 1 for a piece that is not 256
 -- bytes, 4 for state 00 with another byte set, 5 for an unknown state, else the number by which page capacity or that reader refuses

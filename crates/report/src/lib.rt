@@ -1,6 +1,9 @@
 // What a listing says of a page: the kind of a piece of input of any length, and the bytes of its line; and the turns of a listing.
 #![tactic(auto)]
 
+ghost use Rattle.std.specs.Prelude.{◌≡◌};
+ghost use Rattle.report.specs.Lines.{name_of, number_of};
+
 mod kinds;
 mod lines;
 mod turns;
@@ -20,9 +23,27 @@ pub enum Kind {
     Bad(u32),
 }
 
-// A turn of a listing: that of the page with this index, or none.
-#[derive(Clone, Copy)]
-pub enum Turn {
-    Page(u32),
-    End,
+impl Kind {
+    // The kind as a line names it.
+    fn name(self) -> &'static [u8]
+        ensures { result.now ≡ name_of self }
+    {
+        match self {
+            Kind::Blank => b"blank",
+            Kind::First(_) => b"first",
+            Kind::Filled(_) => b"filled",
+            Kind::Second(_) => b"second",
+            Kind::Bad(_) => b"bad",
+        }
+    }
+
+    // Its number in a line.
+    fn number(self) -> u32
+        ensures { result ≡ number_of self }
+    {
+        match self {
+            Kind::Blank => 0,
+            Kind::First(n) | Kind::Filled(n) | Kind::Second(n) | Kind::Bad(n) => n,
+        }
+    }
 }

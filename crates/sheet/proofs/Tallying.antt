@@ -2,18 +2,19 @@
 use mathlib.Core.Bool.{true}
 use mathlib.Core.List.{List, [], ◌∷◌, ◌++◌}
 use mathlib.Core.Logic.{inl}
-use mathlib.Core.Path.{◌≡◌, refl, sym, ap, ◌∙◌}
+use mathlib.Core.Path.{◌≡◌, refl, sym, ap, ap₂, ◌∙◌}
 use Prim.Native.Nat.{ℕ, zero, suc, ◌+◌, ◌*◌, ◌^◌, ◌≤◌, ◌<◌}
 use native.Mathlib.Omega.{arith}
 use lib.IntN.{ℤ, pos, nat_abs, ◌+ℤ◌, +ℤ_idl, +ℤ_idr, +ℤ_assoc}
 use lib.ListN.{length, take, drop}
+use mir.Facts.{to_z-of_z}
 use mir.Syntax.{w64}
-use mir.Val.{SFits}
+use mir.Val.{SFits, to_z, of_z}
+use Rattle.std.specs.Prelude.{None}
 use Rattle.report.specs.Kinds.{kind_of}
 use Rattle.report.specs.Listing.{pieces_from, pieces_of, next_turn, refilled}
 use Rattle.report.specs.declared.Kind.{Kind}
 use Rattle.report.specs.declared.Kind.TheVariants.{Blank, First, Filled, Second, Bad}
-use Rattle.report.specs.declared.Turn.TheVariants.{End}
 use Rattle.report.proofs.Deciding.{second_short}
 use Rattle.report.proofs.Listings.{pieces_none, pieces_count, pieces_more, due, came, after_piece}
 use Rattle.sheet.specs.declared.Tally.{Tally}
@@ -119,12 +120,18 @@ module _ {t : Tally} (h : Tallies 4095 t) where
       let g : t.gain ≡ gains h.pieces = ap (λ (s : Tally). s.gain) h.all ∙ gain_from no_pages h.pieces ∙ +ℤ_idl (gains h.pieces) in
       omega (arith, ap nat_abs g, far_gains h.pieces, h.few)
 
-  pub gain_held : SFits w64 t.gain
-  gain_held = near_fits t.gain (omega (arith, far_gain))
+  -- the gain after one more page, as numbers are held
+  held_sum : (g : ℤ) → nat_abs g < 2 ^ 36 → to_z w64 (of_z w64 t.gain) +ℤ to_z w64 (of_z w64 g) ≡ t.gain +ℤ g
+  held_sum g near = ap₂ (λ (y z : ℤ). y +ℤ z) (to_z-of_z (near_fits t.gain (omega (arith, far_gain)))) (to_z-of_z (near_fits g (omega (arith, near))))
 
-  -- the gain after one more page
-  pub gain_fits : (g : ℤ) → nat_abs g < 2 ^ 36 → SFits w64 (t.gain +ℤ g)
-  gain_fits g near = near_fits (t.gain +ℤ g) (omega (arith, far_sum t.gain g, far_gain, near))
+  pub gain_fits : (g : ℤ) → nat_abs g < 2 ^ 36 → SFits w64 (to_z w64 (of_z w64 t.gain) +ℤ to_z w64 (of_z w64 g))
+  gain_fits g near = rw (held_sum g near) (near_fits (t.gain +ℤ g) (omega (arith, far_sum t.gain g, far_gain, near)))
+
+  pub gain_put : (g : ℤ) → nat_abs g < 2 ^ 36 → to_z w64 (of_z w64 (to_z w64 (of_z w64 t.gain) +ℤ to_z w64 (of_z w64 g))) ≡ t.gain +ℤ g
+  gain_put g near = to_z-of_z (gain_fits g near) ∙ held_sum g near
+
+-- what shows that no sum leaves its width
+pub ruleset tally_fits = (counts_fit, gain_fits, gain_put)
 
 -- ---- the turns
 
@@ -145,7 +152,7 @@ unfolding tally_from pieces_from turn_tally
 tally_turn k t [] = sym (ap (tally_from t) (pieces_none k))
 tally_turn k t (b ∷ l) = refl
 
-turns_end : (k : ℕ) (t : Tally) (page l : List ℕ) → turns_tally k End t page l ≡ t
+turns_end : (k : ℕ) (t : Tally) (page l : List ℕ) → turns_tally k None t page l ≡ t
 unfolding turns_tally
 turns_end zero t page l = refl
 turns_end (suc k) t page l = refl

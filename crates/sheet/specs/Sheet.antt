@@ -1,13 +1,11 @@
 -- The gain sheet (document 02, Change 5): the gain of a page, the tally of pages, its line, and the turns by which a program counts.
 -- Assumes nothing.
-use Rattle.std.specs.Prelude.{true, List, [], ◌∷◌, ◌++◌, ◌≡◌, ℕ, zero, suc, ◌+◌, ◌*◌, ◌≤◌, ℤ, pos, ◌+ℤ◌, ◌-ℤ◌, length, take, drop}
+use Rattle.std.specs.Prelude.{true, Option, Some, None, List, [], ◌∷◌, ◌++◌, ◌≡◌, ℕ, zero, suc, ◌+◌, ◌*◌, ◌≤◌, ℤ, pos, ◌+ℤ◌, ◌-ℤ◌, length, take, drop}
 use Rattle.text.specs.Text.{ascii, decimal, signed}
 use Rattle.report.specs.Kinds.{kind_of}
 use Rattle.report.specs.Listing.{pieces_of, next_turn, refilled}
 use Rattle.report.specs.declared.Kind.{Kind}
 use Rattle.report.specs.declared.Kind.TheVariants.{Blank, First, Filled, Second, Bad}
-use Rattle.report.specs.declared.Turn.{Turn}
-use Rattle.report.specs.declared.Turn.TheVariants.{Page, End}
 use Rattle.sheet.specs.declared.Tally.{Tally}
 
 -- "A state 01 or 03 page counts 1,408 − 2,048": the bits of its record less those of a page
@@ -104,8 +102,8 @@ turn_tally t [] = t
 turn_tally t (b ∷ l) = tallied t (kind_of (b ∷ l))
 
 -- the tally after so many turns at most of a listing, from a turn, a tally, a buffer and the input left
-unfoldable pub turns_tally : ℕ → Turn → Tally → List ℕ → List ℕ → Tally
+unfoldable pub turns_tally : ℕ → Option ℕ → Tally → List ℕ → List ℕ → Tally
 turns_tally zero turn t page l = t
-turns_tally (suc k) End t page l = t
-turns_tally (suc k) (Page index) t page l =
+turns_tally (suc k) None t page l = t
+turns_tally (suc k) (Some index) t page l =
     turns_tally k (next_turn index (length (take 256 l)) true) (turn_tally t (take (length (take 256 l)) (refilled page l))) (refilled page l) (drop 256 l)

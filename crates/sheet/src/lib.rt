@@ -9,7 +9,7 @@ pub use lines::put_sheet;
 pub use tallies::{no_pages, tally_piece};
 
 // What was counted: the pages, those of each kind, and the gain of all.
-#[derive(Clone, Copy)]
+#[derive(Clone, Copy, Default)]
 pub struct Tally {
     pub pages: u32,
     pub blank: u32,

@@ -15,9 +15,8 @@ pub fn read_full<R: Read>(reader: &mut R, buffer: &mut [u8]) -> usize
     let mut done = 0;
     while done < buffer.len() {
         match reader.read(&mut buffer[done..]) {
-            Ok(0) => return done,
+            Ok(0) | Err(_) => break,
             Ok(n) => done += n,
-            Err(_) => return done,
         }
     }
     done
@@ -27,8 +26,5 @@ pub fn read_full<R: Read>(reader: &mut R, buffer: &mut [u8]) -> usize
 pub fn write_whole<W: Write>(writer: &mut W, text: &[u8]) -> bool
     ensures { IsTrue result → Appends (W.contents writer.old) (W.contents writer.new) text.now }
 {
-    match writer.write_all(text) {
-        Ok(()) => true,
-        Err(_) => false,
-    }
+    writer.write_all(text).is_ok()
 }

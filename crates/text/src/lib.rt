@@ -1,59 +1,85 @@
-// Texts and numbers put into a line, a buffer of any length. Each function puts its bytes from byte `at` on, and returns the place after
-// them.
+// A line of text: texts and numbers, one after another.
 #![tactic(auto)]
 
-ghost use Rattle.std.specs.Prelude.{◌≡◌, ◌+◌, ◌≤◌, nat_abs, length};
-ghost use Rattle.std.proofs.lemmas.List.Edits.{sets};
+ghost use Rattle.std.specs.Prelude.{◌≡◌, ◌+◌, ◌<◌, ◌≤◌, [], ◌∷◌, ◌++◌, length};
 ghost use Rattle.text.specs.Text.{decimal, signed};
 
-// Puts a text.
-pub fn put_text(line: &mut [u8], at: usize, text: &[u8]) -> usize
-    requires { at + length text.now ≤ length line.old }
-    ensures place { result ≡ at + length text.now }
-    ensures bytes { line.new ≡ sets line.old at text.now }
-{
-    for i in 0..text.len() {
-        line[at + i] = text[i];
-    }
-    at + text.len()
+use std::marker::Model;
+
+// A line of at most N bytes. A clause sees it as the list of them.
+#[derive(Drop)]
+pub struct Line<const N: usize> {
+    bytes: [u8; N],
+    len: usize,
 }
 
-// Puts a number in decimal.
-pub fn put_decimal(line: &mut [u8], at: usize, n: u64) -> usize
-    requires { at + length (decimal n) ≤ length line.old }
-    ensures place { result ≡ at + length (decimal n) }
-    ensures bytes { line.new ≡ sets line.old at (decimal n) }
-{
-    if n < 10 {
-        line[at] = (48 + n) as u8;
-        return at + 1;
-    }
-    let end = put_decimal(line, at, n / 10);
-    line[end] = (48 + n % 10) as u8;
-    end + 1
+impl<const N: usize> Model for Line<N> {
+    ghost use Rattle.std.specs.Prelude.{List, ℕ, ◌≤◌, take};
+
+    ghost Value = { List ℕ };
+
+    ghost view = { λ l. take l.len l.bytes };
+
+    ghost invariant = { λ l. l.len ≤ N };
 }
 
-// How far a number is from 0.
-fn magnitude(z: i64) -> u64
-    ensures { result ≡ nat_abs z }
-{
-    if z >= 0 {
-        return z as u64;
+impl<const N: usize> Line<N> {
+    // A line with nothing in it.
+    pub fn new() -> Line<N>
+        ensures { result ≡ [] }
+    {
+        Line {
+            bytes: [0; N],
+            len: 0,
+        }
     }
-    // z is -(n + 1): the least number is no exception
-    let n = (-1 - z) as u64;
-    n + 1
-}
 
-// Puts a signed number in decimal: a minus below 0, no plus.
-pub fn put_signed(line: &mut [u8], at: usize, z: i64) -> usize
-    requires { at + length (signed z) ≤ length line.old }
-    ensures place { result ≡ at + length (signed z) }
-    ensures bytes { line.new ≡ sets line.old at (signed z) }
-{
-    if z >= 0 {
-        return put_decimal(line, at, magnitude(z));
+    // Its bytes.
+    pub fn bytes(&self) -> &[u8]
+        ensures { result.now ≡ self.now }
+    {
+        &self.bytes[..self.len]
     }
-    let digits = put_text(line, at, b"-");
-    put_decimal(line, digits, magnitude(z))
+
+    // Puts a byte.
+    fn byte(&mut self, byte: u8)
+        requires { length self.old < N }
+        ensures { self.new ≡ self.old ++ byte ∷ [] }
+    {
+        self.bytes[self.len] = byte;
+        self.len += 1;
+    }
+
+    // Puts a text.
+    pub fn text(&mut self, text: &[u8])
+        requires { length self.old + length text.now ≤ N }
+        ensures { self.new ≡ self.old ++ text.now }
+    {
+        let end = self.len + text.len();
+        let bytes = &mut self.bytes[..];
+        bytes[self.len..end].copy_from_slice(text);
+        self.len = end;
+    }
+
+    // Puts a number in decimal.
+    pub fn decimal(&mut self, n: u64)
+        requires { length self.old + length (decimal n) ≤ N }
+        ensures { self.new ≡ self.old ++ decimal n }
+    {
+        if n >= 10 {
+            self.decimal(n / 10);
+        }
+        self.byte((48 + n % 10) as u8);
+    }
+
+    // Puts a signed number in decimal: a minus below 0, no plus.
+    pub fn signed(&mut self, z: i64)
+        requires { length self.old + length (signed z) ≤ N }
+        ensures { self.new ≡ self.old ++ signed z }
+    {
+        if z < 0 {
+            self.byte(b'-');
+        }
+        self.decimal(z.unsigned_abs());
+    }
 }

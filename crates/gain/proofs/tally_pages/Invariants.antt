@@ -5,9 +5,8 @@ use mathlib.Core.List.{List}
 use mathlib.Core.Path.{◌≡◌}
 use Prim.Native.Nat.{ℕ, ◌*◌, ◌≤◌}
 use lib.ListN.{length}
+use Rattle.std.specs.Prelude.{Option, Some, None}
 use Rattle.report.specs.Listing.{pieces_of}
-use Rattle.report.specs.declared.Turn.{Turn}
-use Rattle.report.specs.declared.Turn.TheVariants.{Page, End}
 use Rattle.report.proofs.Turning.{turns_left}
 use Rattle.sheet.specs.declared.Tally.{Tally}
 use Rattle.sheet.specs.Sheet.{tally_of}
@@ -18,9 +17,9 @@ abbrev pub Sheeted : Tally → Type 0
 Sheeted t = (l : List ℕ) × (t ≡ tally_of (pieces_of l))
 
 -- in a turn
-abbrev pub Counted : Turn → Tally → Type 0
-Counted (Page index) t = (P : List ℕ) × (length P ≡ index * 256) × (t ≡ tally_of (pieces_of P)) × (index ≤ 4095)
-Counted End t = Sheeted t
+abbrev pub Counted : Option ℕ → Tally → Type 0
+Counted (Some index) t = (P : List ℕ) × (length P ≡ index * 256) × (t ≡ tally_of (pieces_of P)) × (index ≤ 4095)
+Counted None t = Sheeted t
 
 abbrev pub invariant-loop-turn : goal.invariant-loop-turn
 invariant-loop-turn l = (length l.page ≡ 256) × Counted l.turn l.tally

@@ -5,4 +5,4 @@ use Rattle.listing.proofs.list_pages.Goals as goal
 
 pub loop-turn-smaller : goal.loop-turn-smaller
 loop-turn-smaller c =
-    one_less _ _ c.list_page-turn.ensures.0 c.in-Page.is c.list_page-turn.ensures.1
+    one_less _ _ c.list_page-turn.ensures.0 c.in-Some.is c.list_page-turn.ensures.1
