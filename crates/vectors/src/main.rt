@@ -41,21 +41,35 @@ fn answer_word(entry: u8, argument: u64) -> u64 {
     }
 }
 
-// The answer of an entry on a page, pages, a file or a block.
-fn answer_page(entry: u8, argument: u64, page: &mut [u8], other: &mut [u8]) -> u64 {
+// The answer of an entry on a page, pages, a file or a block, and the buffer that it may have written.
+fn answer_page<'a>(
+    entry: u8,
+    argument: u64,
+    page: &'a mut [u8],
+    other: &'a mut [u8],
+) -> (u64, Option<&'a [u8]>) {
     match entry {
-        4 => wom::wom_write_first(page, other),
-        5 => wom::wom_read_first(page, other),
-        6 => wom::wom_page_capacity(page),
-        7 => wom::wom_write_second(page, other),
-        8 => wom::wom_read_second(page, other),
-        9 => wom::wom_write_file(low_half(argument), page, other),
-        10 => wom::wom_fill_page(page),
-        11 => wom::wom_write_inspect(page, other),
-        12 => wom::wom_read_inspect(page, other),
-        13 => wom::wom_read_file(page, other),
-        14 => wom::wom_place_record(page, low_quarter(argument), other),
-        _ => wom::wom_collect_block(page, low_quarter(argument), other),
+        4 => (wom::wom_write_first(page, other), Some(page)),
+        5 => (wom::wom_read_first(page, other), Some(other)),
+        6 => (wom::wom_page_capacity(page), None),
+        7 => (wom::wom_write_second(page, other), Some(page)),
+        8 => (wom::wom_read_second(page, other), Some(other)),
+        9 => (
+            wom::wom_write_file(low_half(argument), page, other),
+            Some(other),
+        ),
+        10 => (wom::wom_fill_page(page), Some(page)),
+        11 => (wom::wom_write_inspect(page, other), Some(page)),
+        12 => (wom::wom_read_inspect(page, other), Some(other)),
+        13 => (wom::wom_read_file(page, other), Some(other)),
+        14 => (
+            wom::wom_place_record(page, low_quarter(argument), other),
+            Some(page),
+        ),
+        _ => (
+            wom::wom_collect_block(page, low_quarter(argument), other),
+            Some(other),
+        ),
     }
 }
 
@@ -66,15 +80,11 @@ fn tell_answer(rt: &HostRuntime, index: u32, entry: u8, answer: u64) -> io::Resu
     print!(rt; "{index} {entry} {refusal} {value}")
 }
 
-fn tell_byte(rt: &HostRuntime, b: u8) -> io::Result<()> {
-    print!(rt; "{b:02x}")
-}
-
 // Writes a space and a buffer in hexadecimal.
 fn tell_bytes(rt: &HostRuntime, buffer: &[u8]) -> io::Result<()> {
     print!(rt; " ")?;
     for b in buffer {
-        tell_byte(rt, *b)?;
+        print!(rt; "{b:02x}")?;
     }
     Ok(())
 }
@@ -89,17 +99,13 @@ fn replay_page(
     page: &mut [u8],
     other: &mut [u8],
 ) -> io::Result<bool> {
-    if !read_whole(rt, page) {
+    if !read_whole(rt, page) || !read_whole(rt, other) {
         return Ok(false);
     }
-    if !read_whole(rt, other) {
-        return Ok(false);
-    }
-    tell_answer(rt, index, entry, answer_page(entry, argument, page, other))?;
-    match entry {
-        4 | 7 | 10 | 11 | 14 => tell_bytes(rt, page)?,
-        5 | 8 | 9 | 12 | 13 | 15 => tell_bytes(rt, other)?,
-        _ => {}
+    let (answer, written) = answer_page(entry, argument, page, other);
+    tell_answer(rt, index, entry, answer)?;
+    if let Some(buffer) = written {
+        tell_bytes(rt, buffer)?;
     }
     Ok(true)
 }
@@ -117,11 +123,8 @@ fn replay(rt: &HostRuntime, index: u32, header: &[u8; 13]) -> io::Result<bool> {
     }
     let lengths = cells::four_bytes(header, 9);
     let n = lengths / 65536;
-    if 4352 < n {
-        return Ok(false);
-    }
     let m = lengths % 65536;
-    if 4352 < m {
+    if 4352 < n || 4352 < m {
         return Ok(false);
     }
     let mut page: [u8; 4352] = [0; 4352];
@@ -150,9 +153,10 @@ fn replay_next(rt: &HostRuntime, index: u32) -> io::Result<bool> {
 }
 
 fn main(rt: HostRuntime) -> io::Result<()> {
-    let mut index: u32 = 0;
-    while index < 65536 && replay_next(&rt, index)? {
-        index += 1;
+    for index in 0..65536 {
+        if !replay_next(&rt, index)? {
+            break;
+        }
     }
     Ok(())
 }
