@@ -1,8 +1,8 @@
 -- Numbers in decimal: the last digit apart from the others, how many there are, and what they write. Assumes nothing.
 use mathlib.Core.Bool.{Bool, true, false}
-use mathlib.Core.List.{List, [], ◌∷◌, ◌++◌, append_assoc}
+use mathlib.Core.List.{List, [], ◌∷◌, ◌++◌}
 use mathlib.Core.Logic.{⊎_elim}
-use mathlib.Core.Path.{◌≡◌, refl, sym, ap, ap₂, ◌∙◌}
+use mathlib.Core.Path.{◌≡◌, refl, sym, ap, ◌∙◌}
 use Prim.Native.Nat.{ℕ, zero, suc, ◌+◌, ◌*◌, ◌-◌, ◌/◌, ◌%◌, ◌^◌, ◌≤◌, ◌<◌}
 use native.Mathlib.Nat.{pow-suc}
 use native.Mathlib.Omega.{arith}
@@ -51,16 +51,6 @@ decimal_from (suc k) h = digits_from k (suc k) h ∙ ap (λ (l : List ℕ). l ++
 
 pub decimal_longer : (n : ℕ) → 10 ≤ n → length (decimal n) ≡ length (decimal (n / 10)) + 1
 decimal_longer n h = ap length (decimal_from n h) ∙ length-append (decimal (n / 10)) ((48 + n % 10) ∷ [])
-
--- a digit after what was put of a tenth of the number, and one after nothing
-pub last_put : (old mid : List ℕ) (n : ℕ) → 10 ≤ n → mid ≡ old ++ decimal (n / 10) → mid ++ (48 + n % 10) ∷ [] ≡ old ++ decimal n
-last_put old mid n h e =
-    ap (λ (l : List ℕ). l ++ (48 + n % 10) ∷ []) e ∙ append_assoc old (decimal (n / 10)) ((48 + n % 10) ∷ []) ∙ ap (λ (l : List ℕ). old ++ l) (sym (decimal_from n h))
-
-pub digit_put : (old mid : List ℕ) (n : ℕ) → n < 10 → mid ≡ old → mid ++ (48 + n % 10) ∷ [] ≡ old ++ decimal n
-digit_put old mid n h e =
-    let digit : n % 10 ≡ n = omega arith in
-    ap₂ (λ (l : List ℕ) (d : ℕ). l ++ (48 + d) ∷ []) e digit ∙ ap (λ (l : List ℕ). old ++ l) (sym (decimal_below n h))
 
 -- a number below 10 to the power k + 1 has at most k + 1 digits
 decimal_short : (k n : ℕ) → n < 10 ^ suc k → length (decimal n) ≤ suc k

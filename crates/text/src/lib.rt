@@ -1,10 +1,52 @@
-// A line of text: texts and numbers, one after another.
+// Texts and numbers, one after another: a function puts its bytes into a slice from byte `at` on, and returns the place after them; a
+// method puts them at the end of a line.
 #![tactic(auto)]
 
-ghost use Rattle.std.specs.Prelude.{◌≡◌, ◌+◌, ◌<◌, ◌≤◌, [], ◌∷◌, ◌++◌, length};
+ghost use Rattle.std.specs.Prelude.{◌≡◌, ◌+◌, ◌≤◌, [], ◌++◌, length};
+ghost use Rattle.std.proofs.lemmas.List.Edits.{sets};
 ghost use Rattle.text.specs.Text.{decimal, signed};
 
 use std::marker::Model;
+
+// Puts a text.
+pub fn put_text(line: &mut [u8], at: usize, text: &[u8]) -> usize
+    requires { at + length text.now ≤ length line.old }
+    ensures place { result ≡ at + length text.now }
+    ensures bytes { line.new ≡ sets line.old at text.now }
+{
+    for i in 0..text.len() {
+        line[at + i] = text[i];
+    }
+    at + text.len()
+}
+
+// Puts a number in decimal.
+pub fn put_decimal(line: &mut [u8], at: usize, n: u64) -> usize
+    requires { at + length (decimal n) ≤ length line.old }
+    ensures place { result ≡ at + length (decimal n) }
+    ensures bytes { line.new ≡ sets line.old at (decimal n) }
+{
+    if n < 10 {
+        line[at] = (48 + n) as u8;
+        return at + 1;
+    }
+    let end = put_decimal(line, at, n / 10);
+    line[end] = (48 + n % 10) as u8;
+    end + 1
+}
+
+// Puts a signed number in decimal: a minus below 0, no plus.
+pub fn put_signed(line: &mut [u8], at: usize, z: i64) -> usize
+    requires { at + length (signed z) ≤ length line.old }
+    ensures place { result ≡ at + length (signed z) }
+    ensures bytes { line.new ≡ sets line.old at (signed z) }
+{
+    if z >= 0 {
+        return put_decimal(line, at, z.unsigned_abs());
+    }
+    let digits = put_text(line, at, b"-");
+    put_decimal(line, digits, z.unsigned_abs())
+}
 
 // A line of at most N bytes. A clause sees it as the list of them.
 #[derive(Drop)]
@@ -41,24 +83,12 @@ impl<const N: usize> Line<N> {
         &self.bytes[..self.len]
     }
 
-    // Puts a byte.
-    fn byte(&mut self, byte: u8)
-        requires { length self.old < N }
-        ensures { self.new ≡ self.old ++ byte ∷ [] }
-    {
-        self.bytes[self.len] = byte;
-        self.len += 1;
-    }
-
     // Puts a text.
     pub fn text(&mut self, text: &[u8])
         requires { length self.old + length text.now ≤ N }
         ensures { self.new ≡ self.old ++ text.now }
     {
-        let end = self.len + text.len();
-        let bytes = &mut self.bytes[..];
-        bytes[self.len..end].copy_from_slice(text);
-        self.len = end;
+        self.len = put_text(&mut self.bytes, self.len, text);
     }
 
     // Puts a number in decimal.
@@ -66,10 +96,7 @@ impl<const N: usize> Line<N> {
         requires { length self.old + length (decimal n) ≤ N }
         ensures { self.new ≡ self.old ++ decimal n }
     {
-        if n >= 10 {
-            self.decimal(n / 10);
-        }
-        self.byte((48 + n % 10) as u8);
+        self.len = put_decimal(&mut self.bytes, self.len, n);
     }
 
     // Puts a signed number in decimal: a minus below 0, no plus.
@@ -77,9 +104,6 @@ impl<const N: usize> Line<N> {
         requires { length self.old + length (signed z) ≤ N }
         ensures { self.new ≡ self.old ++ signed z }
     {
-        if z < 0 {
-            self.byte(b'-');
-        }
-        self.decimal(z.unsigned_abs());
+        self.len = put_signed(&mut self.bytes, self.len, z);
     }
 }
