@@ -11,6 +11,7 @@ use rows::filling::count_filled;
 use rows::shape::Shape;
 
 // The tests in document 02's order, of a page by a shape; where none refuses, the page's capacity.
+#[inline(always)]
 pub fn check_filled(page: &[u8], s: Shape) -> Result<u32, Refusal>
     requires { (start s.words ≤ 8 * s.size) × (s.size < 2 ^ 16) }
     ensures { answer_of result ≡ answer (filled_checks s page.now) (room_filled s page.now) }
