@@ -1,7 +1,7 @@
 -- `window::put_cells` meets its contract: the window is put back with the cells from `at` on replaced.
 -- Assumes nothing.
 use mathlib.Core.Path.{◌≡◌, sym, ap, ◌∙◌}
-use Prim.Native.Nat.{ℕ, ◌-◌, ◌*◌, ◌/◌, ◌%◌}
+use Prim.Native.Nat.{ℕ, ◌/◌}
 use native.Mathlib.Omega.{arith}
 use Rattle.std.proofs.Common.{rules}
 use lib.ListN.{take, drop}
@@ -22,5 +22,5 @@ returns g c =
       | else-this-eq8 w ↦ let e : n ≡ 4 = omega arith in w.old-is ∙ w.four_bytes-old.ensures ∙ ap read (sym e)
     ] in
     c.put_bytes.ensures
-    ∙ write_window _ a.at a.count (a.at / 8) n (8 * n - a.at % 8 - a.count) (omega arith) (omega arith) (omega arith)
+    ∙ write_window _ a.at a.count (a.at / 8) n _ (omega arith) (omega arith) (omega arith)
     _ _ _ b (omega arith) old c.replaced.ensures
