@@ -1,4 +1,5 @@
--- `fields::read_field` meets its contract: each tag goes to what answers for it. Assumes nothing.
+-- `fields::read_field` meets its contract: each tag goes to what answers for it. Where the guards ask how many fields were seen, `omega` finds
+-- what they say, and not their names, so that an edit of one is refused by its meaning. Assumes nothing.
 use native.Mathlib.Omega.{arith}
 use mathlib.Core.Path.{refl, sym, ap}
 use Prim.Native.Nat.{◌+◌}
@@ -21,7 +22,7 @@ pub returns-in_err-next-in-2 : goal.returns-in_err-next-in-2
 unfolding field_at in_place least most kind_at
 returns-in_err-next-in-2 c =
     rw (refused_as _ _ c.from_residual.ensures.1)
-    (field_unspanned _ _ _ device 4 4 _ _ _ c.if-file-at.false (sort_02 _ c.in-2.is) refl (eq-eqb _ 0 c.if-seen-eq0.true) refl refl refl c.in_err-next-in-2.ensures)
+    (field_unspanned _ _ _ device 4 4 _ _ _ c.if-file-at.false (sort_02 _ c.in-2.is) refl (eq-eqb _ 0 (omega arith)) refl refl refl c.in_err-next-in-2.ensures)
 
 pub four_bytes-requires : goal.four_bytes-requires
 four_bytes-requires c =
@@ -35,7 +36,7 @@ pub returns-in_err-next-in-1 : goal.returns-in_err-next-in-1
 unfolding field_at in_place least most kind_at
 returns-in_err-next-in-1 c =
     rw (refused_as _ _ c.from_residual-in_err-next-in-1.ensures.1)
-    (field_unspanned _ _ _ page 256 256 _ _ _ c.if-file-at.false (sort_01 _ c.in-1.is) refl (page_in _ c.if-seen-ne0.true c.if-seen-le-MOST_PAGES.true) refl refl refl c.in_err-next-in-1.ensures)
+    (field_unspanned _ _ _ page 256 256 _ _ _ c.if-file-at.false (sort_01 _ c.in-1.is) refl (page_in _ c.if-seen-ne0.true (omega arith)) refl refl refl c.in_err-next-in-1.ensures)
 
 pub returns-in_err-span_of-in-127 : goal.returns-in_err-span_of-in-127
 unfolding field_at in_place least most kind_at
@@ -52,12 +53,12 @@ returns-in_err-span_of-in-64-to-111 c =
 pub returns-in_ok-next-in-2 : goal.returns-in_ok-next-in-2
 unfolding field_at in_place least most kind_at
 returns-in_ok-next-in-2 c =
-    field_spanned _ _ _ device 4 4 _ _ c.if-file-at.false (sort_02 _ c.in-2.is) refl (eq-eqb _ 0 c.if-seen-eq0.true) refl refl (ap Device (sym c.four_bytes.ensures)) c.in_ok-next-in-2.ensures
+    field_spanned _ _ _ device 4 4 _ _ c.if-file-at.false (sort_02 _ c.in-2.is) refl (eq-eqb _ 0 (omega arith)) refl refl (ap Device (sym c.four_bytes.ensures)) c.in_ok-next-in-2.ensures
 
 pub returns-in_ok-next-in-1 : goal.returns-in_ok-next-in-1
 unfolding field_at in_place least most kind_at
 returns-in_ok-next-in-1 c =
-    field_spanned _ _ _ page 256 256 _ _ c.if-file-at.false (sort_01 _ c.in-1.is) refl (page_in _ c.if-seen-ne0.true c.if-seen-le-MOST_PAGES.true) refl refl refl c.in_ok-next-in-1.ensures
+    field_spanned _ _ _ page 256 256 _ _ c.if-file-at.false (sort_01 _ c.in-1.is) refl (page_in _ c.if-seen-ne0.true (omega arith)) refl refl refl c.in_ok-next-in-1.ensures
 
 pub returns-in_ok-span_of-in-127 : goal.returns-in_ok-span_of-in-127
 unfolding field_at in_place least most kind_at
@@ -72,12 +73,12 @@ returns-in_ok-span_of-in-64-to-111 c =
 pub returns-in_default : goal.returns-in_default
 unfolding field_at in_place
 returns-in_default c =
-    sym (no_place _ _ _ _ device c.if-file-at.false (sort_02 _ c.in-2.is) refl (ne_eqb _ 0 c.if-seen-eq0.false))
+    sym (no_place _ _ _ _ device c.if-file-at.false (sort_02 _ c.in-2.is) refl (ne_eqb _ 0 (λ e. omega arith)))
 
 pub returns-in_default-2 : goal.returns-in_default-2
 unfolding field_at in_place
 returns-in_default-2 c =
-    sym (no_place _ _ _ _ page c.if-file-at.false (sort_01 _ c.in-1.is) refl (page_late _ c.if-seen-le-MOST_PAGES.false))
+    sym (no_place _ _ _ _ page c.if-file-at.false (sort_01 _ c.in-1.is) refl (page_late c.args.seen (omega arith)))
 
 pub returns-in_default-3 : goal.returns-in_default-3
 unfolding field_at in_place
