@@ -14,16 +14,17 @@ use mir.Val.{Fits}
 use Rattle.cells.specs.Bytes.{Bytes}
 use Rattle.answer.specs.Answer.{Answer, result, refusal, answer, numbers, among}
 use Rattle.answer.proofs.Tells.{nothing_left}
+use Rattle.answer.proofs.Chains.{same_refusal}
 use Rattle.window.specs.Words.{page_words}
 use Rattle.word.specs.Word.{legal}
 use Rattle.word.specs.Fill.{is_filled}
 use Rattle.rows.specs.declared.shape.Shape.{Shape}
-use Rattle.rows.specs.Page.{state, state_first, state_filled, byte1, lowest, read_all, FirstRoundOf, FilledOf}
+use Rattle.rows.specs.Page.{shape_of, state, state_first, state_filled, byte1, lowest, read_all, FirstRoundOf, FilledOf}
 use Rattle.page.specs.Terms.{SizedOf, HeaderOf, RestSetOf, LowestBad, RefusalsOf}
 use Rattle.page.specs.Answer.{header_checks, first_checks}
 use Rattle.page.proofs.Headed.{header_passed, opened, no_bad_word, all_words, state_refusals, state_taken}
 use Rattle.page.proofs.FirstAnswers.{check_refusals, check_taken}
-use Rattle.filled.specs.Answer.{filled_checks, capacity_checks, room_first, room_filled, room_of}
+use Rattle.filled.specs.Answer.{page_capacity_answer, filled_checks, capacity_checks, room_first, room_filled, room_of}
 
 module _ (s : Shape) (P : List ℕ) where
   -- ---- the check alone
@@ -112,3 +113,8 @@ module _ (s : Shape) (P : List ℕ) where
         λ h. inl (r.0 (sym (as_first n) ∙ h)),
         λ h. as_first n ∙ r.1 (⊎_elim (λ f. f) (λ f. absurd (n f.0.1)) h),
       ))
+
+  -- outside state 03 a refusal of the checks of a first-round page is the answer
+  pub first_refused : (n i : ℕ) → s ≡ shape_of P → ¬ (state P ≡ 3) → ◌≡◌ {A = Answer} (refusal n i) (answer (first_checks s P) 0)
+      → ◌≡◌ {A = Answer} (refusal n i) (page_capacity_answer P)
+  first_refused n i k f e = rw (← k, as_first f, same_refusal {A = ℕ} {B = ℕ} (first_checks s P) 0 (room_first s P) n i (sym e)) refl

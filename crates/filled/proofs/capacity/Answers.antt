@@ -1,9 +1,8 @@
 -- `filled::capacity` meets its contract: the length first, then by the state, for the page's own shape.
 -- Assumes nothing.
-use mathlib.Core.Path.{refl, sym, ap}
+use mathlib.Core.Path.{refl, ap}
 use native.Mathlib.Omega.{arith}
 use Rattle.answer.specs.Answer.{result}
-use Rattle.answer.proofs.Chains.{same_refusal}
 use Rattle.word.specs.Word.{legal}
 use Rattle.rows.proofs.Shapes.{sound_found, words_inside}
 use Rattle.page.specs.Answer.{first_checks}
@@ -11,7 +10,7 @@ use Rattle.answer.proofs.Passing.{refused_as, same_result}
 use Rattle.page.proofs.Headed.{all_words}
 use Rattle.page.proofs.FirstAnswers.{first_passed}
 use Rattle.filled.specs.Answer.{room_first}
-use Rattle.filled.proofs.FilledAnswers.{as_filled, as_first, capacity_1}
+use Rattle.filled.proofs.FilledAnswers.{as_filled, as_first, first_refused, capacity_1}
 use Rattle.filled.proofs.capacity.Goals as goal
 
 pub returns-then-page-s : goal.returns-then-page-s
@@ -24,10 +23,8 @@ returns-then-page-eq-STATE_FILLED c =
 
 pub returns-in_err-check_first : goal.returns-in_err-check_first
 returns-in_err-check_first c =
-    let s = c.shape_of-s.result in
-    let P = c.args.page.now in
-    let told = same_refusal (first_checks s P) 0 (room_first s P) _ _ (sym c.in_err-check_first.ensures) in
-    rw (← c.shape_of-s.ensures, refused_as _ _ c.from_residual.ensures.1, as_first s P c.if-page-eq-STATE_FILLED.false, told) refl
+    let told = first_refused _ _ _ _ c.shape_of-s.ensures c.if-page-eq-STATE_FILLED.false c.in_err-check_first.ensures in
+    rw (refused_as _ _ c.from_residual.ensures.1) told
 
 pub capacity_of-requires : goal.capacity_of-requires
 capacity_of-requires c =

@@ -14,7 +14,7 @@ loop-i-init c =
 pub returns-then-not-is_legal : goal.returns-then-not-is_legal
 returns-then-not-is_legal c =
     let r = c.loop-i.invariant in
-    let t = c.is_legal.ensures ∙ reading_legal _ _ _ _ _ _ _ _ r c.loop-i-test.true c.requires.0 _ _ _ _ c.load_word.ensures c.read_word-read.ensures _ c.bits.ensures.number in
+    let t = c.is_legal.ensures ∙ reading_legal _ _ _ _ _ _ _ _ r c.loop-i-test.true c.requires.0 _ _ _ _ c.load_word.ensures c.read_word-read.ensures _ (omega arith) in
     record {
       words = reading_failed _ _ _ _ _ _ _ _ r c.loop-i-test.true c.requires.0 _ _ _ _ c.load_word.ensures c.read_word-read.ensures (sym t ∙ c.if-not-is_legal.true);
       bits = omega (arith, r.counted);
@@ -38,7 +38,7 @@ overflow_add-at c =
 pub loop-i-preserved : goal.loop-i-preserved
 loop-i-preserved c =
     let r = c.loop-i.invariant in
-    let t = c.is_legal.ensures ∙ reading_legal _ _ _ _ _ _ _ _ r c.loop-i-test.true c.requires.0 _ _ _ _ c.load_word.ensures c.read_word-read.ensures _ c.bits.ensures.number in
+    let t = c.is_legal.ensures ∙ reading_legal _ _ _ _ _ _ _ _ r c.loop-i-test.true c.requires.0 _ _ _ _ c.load_word.ensures c.read_word-read.ensures _ (omega arith) in
     reading_turn _ _ _ _ _ _ _ _ r c.loop-i-test.true c.requires.0 _ _ _ _ c.load_word.ensures c.read_word-read.ensures _ c.requires.2
     (omega (arith, r.few)) (sym t ∙ c.if-not-is_legal.false) c.put_cells.ensures
 
